@@ -1,0 +1,6 @@
+pub mod Division
+pub mod Linearity
+pub mod Bursting
+pub mod Shortest
+pub mod Quotient
+pub mod Bytewise

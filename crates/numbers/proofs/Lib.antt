@@ -1,0 +1,3 @@
+pub mod Every
+pub mod Storing
+pub mod Xor

@@ -1,0 +1,67 @@
+//! The proved library and the reference give the same answers.
+
+use reference::framing::{Framed, MESSAGE_MAX};
+use reference::xorshift::Xorshift;
+
+const CHECK_SEQUENCES: usize = 200_200;
+const FRAMES: usize = 110_250;
+/// Bytes on each side of the output that no call may touch.
+const GUARD: usize = 16;
+const ROOM_MAX: usize = 1024;
+
+#[test]
+fn check_sequences_agree() {
+    let mut random = Xorshift::new(3);
+    for round in 0..CHECK_SEQUENCES {
+        let message = random.message(round % 1001);
+        assert_eq!(
+            compare::check_sequence(&message),
+            reference::fcs::check_sequence(&message),
+            "check sequence of {message:02X?}"
+        );
+    }
+}
+
+#[test]
+fn frames_agree() {
+    let mut random = Xorshift::new(4);
+    for round in 0..FRAMES {
+        let eighths = [0, 1, 4, 8][random.below(4)];
+        let message = random.message_with_escapes(round % 441, eighths);
+        let room = room_for(&message, &mut random);
+        // A fill that varies: none can hide behind a byte of the frame.
+        let fill = random.next_u64() as u8;
+        assert_frames_agree(&message, room, fill);
+    }
+}
+
+fn assert_frames_agree(message: &[u8], room: usize, fill: u8) {
+    let mut proved = vec![fill; GUARD + room + GUARD];
+    let mut expected = proved.clone();
+    let answer = compare::frame(message, &mut proved[GUARD..GUARD + room]);
+    let expected_answer = reference_frame(message, &mut expected[GUARD..GUARD + room]);
+    assert_eq!(
+        answer, expected_answer,
+        "answer in {room} bytes to {message:02X?}"
+    );
+    assert_eq!(proved, expected, "output in {room} bytes of {message:02X?}");
+}
+
+/// The reference's answer in the shape of the C function's.
+fn reference_frame(message: &[u8], out: &mut [u8]) -> (u8, usize) {
+    match reference::framing::frame(message, out) {
+        Framed::Bytes(length) => (0, length),
+        Framed::Refused(number) => (number, 0),
+    }
+}
+
+/// Mostly within three bytes of the frame's length, at times any.
+fn room_for(message: &[u8], random: &mut Xorshift) -> usize {
+    let (_, length) = reference_frame(message, &mut [0; ROOM_MAX]);
+    let a_message = (1..=MESSAGE_MAX).contains(&message.len());
+    if a_message && random.below(8) != 0 {
+        length - 3 + random.below(7)
+    } else {
+        random.below(ROOM_MAX + 1)
+    }
+}
