@@ -15,8 +15,8 @@ pub fn check_sequence(message: &[u8]) -> u16
     r
 }
 
-// One byte more of the division. The eight bits that leave above come back below, all at once:
-// from 2 to the 16th on, x^16 is x^12+x^5+1.
+// One byte more of the division. The eight bits that leave above come back below all at once, since
+// x^16 is x^12+x^5+1 modulo the generator; the upper half of the x^12 part leaves once more.
 fn with_byte(r: u16, b: u8) -> u16
     ensures { λ s. ⌜ s ≡ byteStep r b ⌝ }
 {
