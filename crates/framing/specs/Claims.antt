@@ -11,6 +11,10 @@ use Rattle.framing.specs.Frame.{frameOf}
 abbrev pub Unstuffs : Type 0
 Unstuffs = (bs : List ℕ) → unstuff (stuff bs) ≡ unstuffed bs 0
 
+-- bytes without a flag that unstuff without a fault are what stuffing makes of the result: no byte has two forms
+abbrev pub Restuffs : Type 0
+Restuffs = (ws : List ℕ) → Flagless ws → unstuff ws .fault ≡ 0 → stuff (unstuff ws .bytes) ≡ ws
+
 -- a stuffed list has no flag in it
 abbrev pub StuffedFlagless : Type 0
 StuffedFlagless = (bs : List ℕ) → Flagless (stuff bs)

@@ -4,7 +4,7 @@ use crate::fcs::check_sequence;
 
 pub const FLAG: u8 = 0x7E;
 pub const ESCAPE: u8 = 0x7D;
-const ESCAPE_FLIP: u8 = 0x20;
+pub(crate) const ESCAPE_FLIP: u8 = 0x20;
 
 /// The longest message, 436 bytes (01).
 pub const MESSAGE_MAX: usize = 436;
@@ -48,7 +48,7 @@ fn stuffed_length(bytes: &[u8]) -> usize {
 }
 
 /// Writes the stuffed bytes from `at` on and answers the place behind them.
-fn stuff(bytes: &[u8], frame: &mut [u8], mut at: usize) -> usize {
+pub(crate) fn stuff(bytes: &[u8], frame: &mut [u8], mut at: usize) -> usize {
     for &byte in bytes {
         if needs_escape(byte) {
             frame[at] = ESCAPE;

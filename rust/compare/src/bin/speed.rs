@@ -1,16 +1,21 @@
 //! Speed of the proved library against the reference, in one run.
-//! One line for each benchmark: name, ns per message of each, their ratio.
+//! One line for each benchmark: name, ns per message (collecting: per byte of
+//! the stream) of each, their ratio.
 
 use std::hint::black_box;
 use std::time::Instant;
 
+use reference::collecting::Answer;
 use reference::framing::{Framed, MESSAGE_MAX};
+use reference::recording::speed_recording;
 use reference::xorshift::Xorshift;
 
 const MESSAGES: usize = 64;
 /// Times the whole set is gone through in one timed round.
 const PASSES: usize = 8;
 const ROUNDS: usize = 101;
+/// Fewer for collecting: a round goes through a whole MiB.
+const COLLECT_ROUNDS: usize = 41;
 const WARM_UP: usize = 10;
 /// The longest frame: every byte escaped, and two flags (01).
 const ROOM: usize = 2 * MESSAGE_MAX + 6;
@@ -22,6 +27,7 @@ fn main() {
     measure_check_sequence("check_sequence", &plain);
     measure_frame("frame", &plain);
     measure_frame("frame_escapes", &escapes);
+    measure_collect(&speed_recording());
 }
 
 fn message_set(random: &mut Xorshift, eighths: usize) -> Vec<Vec<u8>> {
@@ -42,7 +48,7 @@ fn reference_frame(message: &[u8], out: &mut [u8]) -> Framed {
 }
 
 fn measure_check_sequence(name: &str, messages: &[Vec<u8>]) {
-    measure(
+    measure_messages(
         name,
         messages,
         |message| {
@@ -56,7 +62,7 @@ fn measure_check_sequence(name: &str, messages: &[Vec<u8>]) {
 
 fn measure_frame(name: &str, messages: &[Vec<u8>]) {
     let (mut proved, mut expected) = ([0; ROOM], [0; ROOM]);
-    measure(
+    measure_messages(
         name,
         messages,
         |message| {
@@ -71,41 +77,116 @@ fn measure_frame(name: &str, messages: &[Vec<u8>]) {
     );
 }
 
-/// Interleaves the rounds, each side first in turn, so that drift hits both.
-fn measure(
+fn measure_messages(
     name: &str,
     messages: &[Vec<u8>],
     mut rattle: impl FnMut(&[u8]),
     mut rust: impl FnMut(&[u8]),
 ) {
-    let (mut rattle_ns, mut rust_ns) = (Vec::new(), Vec::new());
-    for round in 0..WARM_UP + ROUNDS {
-        if round == WARM_UP {
-            rattle_ns.clear();
-            rust_ns.clear();
-        }
-        if round % 2 == 0 {
-            rattle_ns.push(time(messages, &mut rattle));
-            rust_ns.push(time(messages, &mut rust));
-        } else {
-            rust_ns.push(time(messages, &mut rust));
-            rattle_ns.push(time(messages, &mut rattle));
-        }
-    }
-    let (rattle, rust) = (median(rattle_ns), median(rust_ns));
-    let ratio = rattle / rust;
-    println!("{name:<16} rattle {rattle:8.1} ns  rust {rust:8.1} ns  ratio {ratio:.2}");
+    let mut rattle = || go_through(messages, &mut rattle);
+    let mut rust = || go_through(messages, &mut rust);
+    let [rattle, rust] = medians(ROUNDS, [&mut rattle, &mut rust])
+        .map(|round| round / (PASSES * messages.len()) as f64);
+    report(name, "ns", 1, [rattle, rust]);
 }
 
-/// Nanoseconds per message of one round.
-fn time(messages: &[Vec<u8>], call: &mut impl FnMut(&[u8])) -> f64 {
-    let start = Instant::now();
+fn go_through(messages: &[Vec<u8>], call: &mut impl FnMut(&[u8])) {
     for _ in 0..PASSES {
         for message in messages {
             call(message);
         }
     }
-    start.elapsed().as_nanos() as f64 / (PASSES * messages.len()) as f64
+}
+
+/// What a round of collecting works out, so that no answer goes unread.
+#[derive(Debug, PartialEq, Eq, Default)]
+struct Tally {
+    answers: usize,
+    message_bytes: usize,
+}
+
+impl Tally {
+    fn add(&mut self, answer: Answer) {
+        match answer {
+            Answer::None => {}
+            Answer::Message(message) => {
+                self.answers += 1;
+                self.message_bytes += message.len();
+            }
+            Answer::Refused(_) => self.answers += 1,
+        }
+    }
+}
+
+#[inline(never)]
+fn rattle_collect(mut stream: &[u8]) -> Tally {
+    let mut tally = Tally::default();
+    let mut collector = compare::Collector::new();
+    while !stream.is_empty() {
+        let fed = collector.feed(stream);
+        stream = &stream[fed.taken..];
+        tally.add(fed.answer);
+    }
+    tally
+}
+
+#[inline(never)]
+fn reference_collect(stream: &[u8]) -> Tally {
+    let mut tally = Tally::default();
+    let mut collector = reference::collecting::Collector::new();
+    for &byte in stream {
+        tally.add(collector.push(byte));
+    }
+    tally
+}
+
+fn measure_collect(stream: &[u8]) {
+    let expected = reference_collect(stream);
+    assert_eq!(rattle_collect(stream), expected);
+    assert_eq!(compare::answers_by_value(stream), expected.answers);
+    let [rattle, rust, by_value] = medians(
+        COLLECT_ROUNDS,
+        [
+            &mut || {
+                black_box(rattle_collect(black_box(stream)));
+            },
+            &mut || {
+                black_box(reference_collect(black_box(stream)));
+            },
+            &mut || {
+                black_box(compare::answers_by_value(black_box(stream)));
+            },
+        ],
+    )
+    .map(|round| round / stream.len() as f64);
+    for (name, rattle) in [("collect", rattle), ("collect_by_value", by_value)] {
+        report(name, "ns/byte", 3, [rattle, rust]);
+    }
+}
+
+fn report(name: &str, unit: &str, decimals: usize, [rattle, rust]: [f64; 2]) {
+    let ratio = rattle / rust;
+    println!(
+        "{name:<16} rattle {rattle:8.decimals$} {unit}  rust {rust:8.decimals$} {unit}  ratio {ratio:.2}"
+    );
+}
+
+/// Median nanoseconds of a round of each side. The rounds are interleaved,
+/// each side first in turn, so that drift hits all.
+fn medians<const SIDES: usize>(rounds: usize, sides: [&mut dyn FnMut(); SIDES]) -> [f64; SIDES] {
+    let mut taken = [const { Vec::new() }; SIDES];
+    for round in 0..WARM_UP + rounds {
+        for turn in 0..SIDES {
+            let side = (round + turn) % SIDES;
+            let start = Instant::now();
+            sides[side]();
+            let elapsed = start.elapsed().as_nanos() as f64;
+            if round >= WARM_UP {
+                taken[side].push(elapsed);
+            }
+        }
+    }
+    taken.map(median)
 }
 
 fn median(mut values: Vec<f64>) -> f64 {

@@ -5,17 +5,18 @@
 //! `framing_vectors output` writes one line for each record: number of 01,
 //! length written, and the whole output room in hex ("-" if it has no bytes).
 
-use std::io::{self, BufWriter, Write};
+use std::io::{self, Write};
 use std::process::ExitCode;
 
 use reference::fcs::check_sequence;
 use reference::framing::{frame, Framed, ESCAPE, FLAG, MESSAGE_MAX};
+use reference::recording::framed;
+use reference::vectors::{run, write_hex, HEARTBEAT};
 use reference::xorshift::Xorshift;
 
 /// What the output room holds before each call.
 const FILL: u8 = 0xAA;
 const ROOM_MAX: usize = 1024;
-const HEARTBEAT: [u8; 7] = [0x00, 0x81, 0x41, 0xDB, 0xD0, 0x08, 0x02];
 
 struct Record {
     message: Vec<u8>,
@@ -23,21 +24,10 @@ struct Record {
 }
 
 fn main() -> io::Result<ExitCode> {
-    let arguments: Vec<String> = std::env::args().skip(1).collect();
-    let mut out = BufWriter::new(io::stdout().lock());
-    match arguments.iter().map(String::as_str).collect::<Vec<_>>()[..] {
-        ["input"] => write_input(&mut out)?,
-        ["output"] => write_output(&mut out)?,
-        _ => {
-            eprintln!("usage: framing_vectors input|output");
-            return Ok(ExitCode::from(2));
-        }
-    }
-    out.flush()?;
-    Ok(ExitCode::SUCCESS)
+    run("framing_vectors", write_input, write_output)
 }
 
-fn write_input(out: &mut impl Write) -> io::Result<()> {
+fn write_input(out: &mut dyn Write) -> io::Result<()> {
     for Record { message, room } in records() {
         out.write_all(&(message.len() as u16).to_be_bytes())?;
         out.write_all(&(room as u16).to_be_bytes())?;
@@ -46,7 +36,7 @@ fn write_input(out: &mut impl Write) -> io::Result<()> {
     Ok(())
 }
 
-fn write_output(out: &mut impl Write) -> io::Result<()> {
+fn write_output(out: &mut dyn Write) -> io::Result<()> {
     for Record { message, room } in records() {
         let mut lent = vec![FILL; room];
         let (number, length) = match frame(&message, &mut lent) {
@@ -54,12 +44,7 @@ fn write_output(out: &mut impl Write) -> io::Result<()> {
             Framed::Refused(number) => (number, 0),
         };
         write!(out, "{number} {length} ")?;
-        if lent.is_empty() {
-            write!(out, "-")?;
-        }
-        for byte in lent {
-            write!(out, "{byte:02x}")?;
-        }
+        write_hex(out, &lent)?;
         writeln!(out)?;
     }
     Ok(())
@@ -93,10 +78,7 @@ fn add_exact_and_short(records: &mut Vec<Record>, message: &[u8]) {
 }
 
 fn frame_length(message: &[u8]) -> usize {
-    match frame(message, &mut [0; ROOM_MAX]) {
-        Framed::Bytes(length) => length,
-        Framed::Refused(number) => panic!("refused with {number}: {message:02X?}"),
-    }
+    framed(message).len()
 }
 
 fn add_one_byte(records: &mut Vec<Record>) {

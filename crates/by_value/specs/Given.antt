@@ -1,0 +1,12 @@
+-- How many answers a list of bytes is given.
+-- Assumes nothing.
+use Prim.Native.Nat.{ℕ, _+_}
+use mathlib.Core.Bool.{cond}
+use mathlib.Core.List.{List, [], _∷_}
+use Rattle.collecting.specs.declared.Collector.{Collector}
+use Rattle.collecting.specs.Step.{next, answerTo}
+use Rattle.collecting.specs.Stream.{isAnswered}
+
+unfoldable pub given : Collector → List ℕ → ℕ
+given c [] = 0
+given c (b ∷ bs) = cond (isAnswered (answerTo c b)) 1 0 + given (next c b) bs

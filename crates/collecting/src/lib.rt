@@ -1,0 +1,306 @@
+// Collecting frames from a byte stream (001 §2.2.1; 01 'Flags, escapes, check sequence').
+ghost use mathlib.Core.Path.{_≡_};
+ghost use mathlib.Core.List.{_++_};
+ghost use Prim.Native.Nat.{_+_, _-_, _*_, _≤_, _<_};
+ghost use lib.ListN.{length, take, replicate};
+ghost use Rattle.fcs.specs.Fcs.{fcs};
+ghost use Rattle.collecting.specs.Step.{held, cleared, fresh, collected, unescaped, inside, checked, closed, next, shown, stepped, left};
+ghost use Rattle.collecting.specs.Stream.{isAnswered, run, fed};
+
+pub enum Phase {
+    // before the first flag
+    LeadIn,
+    // between flags
+    Open,
+    // 0x7D was the last byte
+    Escape,
+    // answer 1 is met
+    BadEscape,
+    // answer 3 is met
+    TooLong,
+}
+
+// What is kept from one byte to the next, beside the room.
+pub struct Control {
+    pub count: usize,
+    pub phase: Phase,
+}
+
+pub enum Answer {
+    // none yet
+    None,
+    // 0, with a message of so many bytes
+    Accepted(usize),
+    // 01's number, 1 to 5
+    Refused(u8),
+}
+
+pub struct Stepped {
+    pub control: Control,
+    pub answer: Answer,
+}
+
+impl Control {
+    // Before the first byte; the room beside it is zero.
+    pub fn fresh() -> Self
+        ensures { λ r. ⌜ r ≡ fresh .control ⌝ }
+    {
+        Self {
+            count: 0,
+            phase: Phase::LeadIn,
+        }
+    }
+}
+
+// One byte. The room is the state's, and zero at the start; the message is written with answer 0 only.
+pub fn step(control: Control, room: &mut [u8; 438], message: &mut [u8; 436], byte: u8) -> Stepped
+    ensures { λ r. ⌜ left r (now (room .exit)) (now (message .exit)) ≡ stepped (held control (now (room .entry))) (now (message .entry)) byte ⌝ }
+{
+    if 438 < control.count {
+        let control = restarted(byte, room);
+        return Stepped {
+            control,
+            answer: Answer::None,
+        };
+    }
+    if byte == 0x7E {
+        let answer = close(control, room, message);
+        let open = clear(Phase::Open, room);
+        return Stepped {
+            control: open,
+            answer,
+        };
+    }
+    let control = inside_frame(control, room, byte);
+    Stepped {
+        control,
+        answer: Answer::None,
+    }
+}
+
+// A byte from the fresh state.
+fn restarted(first: u8, room: &mut [u8; 438]) -> Control
+    ensures { λ r. ⌜ held r (now (room .exit)) ≡ next fresh first ⌝ }
+{
+    if first == 0x7E {
+        return clear(Phase::Open, room);
+    }
+    clear(Phase::LeadIn, room)
+}
+
+// Nothing collected, and the room zero.
+fn clear(phase: Phase, room: &mut [u8; 438]) -> Control
+    ensures { λ r. ⌜ held r (now (room .exit)) ≡ cleared phase ⌝ }
+{
+    *room = [0u8; 438];
+    Control { count: 0, phase }
+}
+
+// A flag.
+fn close(control: Control, room: &[u8; 438], message: &mut [u8; 436]) -> Answer
+    requires { ⌜ control .count ≤ 438 ⌝ }
+    ensures { λ r. ⌜ (r ≡ closed (control .phase) (control .count) (now (room .entry))) × (now (message .exit) ≡ shown r (now (room .entry)) (now (message .entry))) ⌝ }
+{
+    let n = control.count;
+    let phase = control.phase;
+    match phase {
+        Phase::LeadIn => Answer::None,
+        Phase::Open => {
+            if n == 0 {
+                return Answer::None;
+            }
+            if n < 3 {
+                return Answer::Refused(4);
+            }
+            check(n - 2, room, message)
+        }
+        Phase::Escape => Answer::Refused(2),
+        Phase::BadEscape => Answer::Refused(1),
+        Phase::TooLong => Answer::Refused(3),
+    }
+}
+
+// k bytes of a message, and behind them its check sequence, low byte first.
+fn check(k: usize, room: &[u8; 438], message: &mut [u8; 436]) -> Answer
+    requires { ⌜ k ≤ 436 ⌝ }
+    ensures { λ r. ⌜ (r ≡ checked k (now (room .entry))) × (now (message .exit) ≡ shown r (now (room .entry)) (now (message .entry))) ⌝ }
+{
+    let sent = word(room[k + 1], room[k]);
+    if sequence_of(room, k) == sent {
+        show(room, k, message);
+        return Answer::Accepted(k);
+    }
+    Answer::Refused(5)
+}
+
+fn sequence_of(bytes: &[u8], k: usize) -> u16
+    requires { ⌜ k ≤ length (now bytes) ⌝ }
+    ensures { λ r. ⌜ r ≡ fcs (take k (now (bytes .entry))) ⌝ }
+{
+    fcs::check_sequence(&bytes[..k])
+}
+
+fn word(high: u8, low: u8) -> u16
+    ensures { λ r. ⌜ r ≡ 256 * high + low ⌝ }
+{
+    256 * (high as u16) + (low as u16)
+}
+
+// The first k bytes, and zeros behind them.
+fn show(bytes: &[u8], k: usize, message: &mut [u8; 436])
+    requires { ⌜ (k ≤ length (now bytes)) × (k ≤ 436) ⌝ }
+    ensures { λ _. ⌜ now (message .exit) ≡ take k (now (bytes .entry)) ++ replicate (436 - k) 0 ⌝ }
+{
+    *message = [0u8; 436];
+    let mut i = 0;
+    while i < k {
+        message[i] = bytes[i];
+        i += 1;
+    }
+}
+
+// A byte that is no flag. The control is made anew in each arm: handed back as it came, its padding
+// would be copied at each byte.
+fn inside_frame(control: Control, room: &mut [u8; 438], byte: u8) -> Control
+    ensures { λ r. ⌜ held r (now (room .exit)) ≡ inside (control .phase) (held control (now (room .entry))) byte ⌝ }
+{
+    let n = control.count;
+    let phase = control.phase;
+    match phase {
+        Phase::LeadIn => Control {
+            count: n,
+            phase: Phase::LeadIn,
+        },
+        Phase::Open => {
+            if byte == 0x7D {
+                Control {
+                    count: n,
+                    phase: Phase::Escape,
+                }
+            } else {
+                collect(n, room, byte)
+            }
+        }
+        Phase::Escape => after_escape(n, room, byte),
+        Phase::BadEscape => Control {
+            count: n,
+            phase: Phase::BadEscape,
+        },
+        Phase::TooLong => Control {
+            count: n,
+            phase: Phase::TooLong,
+        },
+    }
+}
+
+// A byte that is no flag, behind 0x7D.
+fn after_escape(n: usize, room: &mut [u8; 438], byte: u8) -> Control
+    ensures { λ r. ⌜ held r (now (room .exit)) ≡ unescaped n (now (room .entry)) byte ⌝ }
+{
+    if (byte == 0x5D) | (byte == 0x5E) {
+        return collect(n, room, byte ^ 0x20);
+    }
+    clear(Phase::BadEscape, room)
+}
+
+// One collected byte more, behind n others.
+fn collect(n: usize, room: &mut [u8; 438], byte: u8) -> Control
+    ensures { λ r. ⌜ held r (now (room .exit)) ≡ collected n (now (room .entry)) byte ⌝ }
+{
+    if n < 438 {
+        room[n] = byte;
+        return Control {
+            count: n + 1,
+            phase: Phase::Open,
+        };
+    }
+    clear(Phase::TooLong, room)
+}
+
+pub struct Fed {
+    pub control: Control,
+    // how many bytes were taken
+    pub taken: usize,
+    pub answer: Answer,
+}
+
+// The bytes one after the other, until one is answered or there are no more.
+pub fn feed(control: Control, room: &mut [u8; 438], message: &mut [u8; 436], bytes: &[u8]) -> Fed
+    ensures { λ r. ⌜ fed r (now (room .exit)) (now (message .exit)) ≡ run (held control (now (room .entry))) (now (message .entry)) (now (bytes .entry)) ⌝ }
+{
+    let mut c = control;
+    let mut i = 0;
+    while i < bytes.len() {
+        let s = step(c, room, message, bytes[i]);
+        i += 1;
+        c = s.control;
+        let answer = s.answer;
+        if is_answered(answer) {
+            return Fed {
+                control: c,
+                taken: i,
+                answer,
+            };
+        }
+    }
+    Fed {
+        control: c,
+        taken: i,
+        answer: Answer::None,
+    }
+}
+
+pub fn is_answered(answer: Answer) -> bool
+    ensures { λ r. ⌜ r ≡ isAnswered answer ⌝ }
+{
+    match answer {
+        Answer::None => false,
+        Answer::Accepted(_) => true,
+        Answer::Refused(_) => true,
+    }
+}
+
+// The whole state by value, for readers and simple callers: each step copies it.
+pub struct Collector {
+    pub control: Control,
+    pub room: [u8; 438],
+}
+
+pub struct Collected {
+    pub state: Collector,
+    pub answer: Answer,
+    // with answer 0 the message and zeros behind it, else zeros
+    pub message: [u8; 436],
+}
+
+impl Collector {
+    pub fn fresh() -> Self
+        ensures { λ r. ⌜ r ≡ fresh ⌝ }
+    {
+        let control = Control::fresh();
+        Self {
+            control,
+            room: [0u8; 438],
+        }
+    }
+
+    pub fn step(self, byte: u8) -> Collected
+        ensures { λ r. ⌜ r ≡ stepped self (replicate 436 0) byte ⌝ }
+    {
+        let control = self.control;
+        let mut room = self.room;
+        let mut message = [0u8; 436];
+        let s = step(control, &mut room, &mut message, byte);
+        let after = s.control;
+        let state = Collector {
+            control: after,
+            room,
+        };
+        let answer = s.answer;
+        Collected {
+            state,
+            answer,
+            message,
+        }
+    }
+}
