@@ -11,13 +11,15 @@ use lib.ListN.{length, take, drop, getD, take-append-drop, drop-of-length-le}
 use lib.Seq.{drop-cons}
 use borrow.Author.Tests.{ltb-false, eqb-true}
 use Rattle.numbers.specs.Bits.{_⊕_}
+use Rattle.numbers.specs.Bytes.{AreBytes}
+use Rattle.numbers.proofs.Bytes.{byte-at}
 use Rattle.fcs.specs.Fcs.{fcs}
 use Rattle.framing.specs.Stuffing.{flag, controlEscape, escape, stuff, Unstuffed, unstuff}
 use Rattle.framing.specs.Frame.{lowFirst, enclosed, frameOf}
 use Rattle.framing.proofs.Unstuffing.{by-byte, restuffs}
 use Rattle.collecting.specs.Stream.{Reply, nothing, message, refused}
 use Rattle.collecting.specs.Between.{whole, verdict, replyBetween}
-use Rattle.collecting.specs.Claims.{AreBytes, ReadFramed}
+use Rattle.collecting.specs.Claims.{ReadFramed}
 
 -- ys are the message m and its check sequence, low byte first
 record Read (ys m : List ℕ) : Type 0 where
@@ -57,12 +59,6 @@ stuffed-bytes (y ∷ ys) =
     by-byte (λ (y : ℕ). AreBytes (escape y ++ stuff ys) → AreBytes (y ∷ ys)) y
     (λ h. (omega arith, stuffed-bytes ys (h .1 .1))) (λ h. (omega arith, stuffed-bytes ys (h .1 .1)))
     (λ e f h. let g : (y < 256) × AreBytes (stuff ys) = simp (e, f) at h in (g .0, stuffed-bytes ys (g .1)))
-
-byte-at : (ys : List ℕ) (i : ℕ) → AreBytes ys → getD ys i 0 < 256
-unfolding AreBytes
-byte-at [] i h = omega arith
-byte-at (y ∷ ys) zero h = h .0
-byte-at (y ∷ ys) (suc i) h = byte-at ys i (h .1)
 
 -- a list is all but its last two, and those
 last-two : (ys : List ℕ) → 2 ≤ length ys → take (length ys - 2) ys ++ getD ys (length ys - 2) 0 ∷ getD ys (length ys - 1) 0 ∷ [] ≡ ys

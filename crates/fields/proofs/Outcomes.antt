@@ -1,0 +1,42 @@
+-- The ways a write ends, for every kind.
+-- Assumes nothing.
+use mathlib.Core.Path.{_≡_, refl, sym, ap, _∙_, subst₂}
+use mathlib.Core.Bool.{Bool, true, false, cond}
+use Prim.Native.Nat.{ℕ, _+_, _≤_, _<_}
+use mathlib.Core.List.{List, [], _∷_}
+use native.Mathlib.Omega.{arith}
+use native.Mathlib.Numerals.{add-one}
+use lib.ListN.{length, drop, getD, set, drop-of-length-le}
+use lib.Seq.{sets, drop-cons}
+use borrow.Author.Tests.{le-leb, lt-leb}
+use Rattle.numbers.specs.Lent.{written}
+use Rattle.numbers.proofs.Storing.{from-first}
+use Rattle.fields.specs.declared.Written.{Written}
+use Rattle.fields.specs.declared.Written.the-variants.{Bytes, Refused}
+use Rattle.fields.specs.Writing.{writing, Wrote}
+
+pub no-room : (bytes out : List ℕ) → length out < length bytes → Wrote true bytes out (Refused 9) out
+unfolding writing written
+no-room bytes out h = record { answers = simp (lt-leb (length bytes) (length out) h); leaves = refl }
+
+-- one byte more stored of those that are left
+pub stored : (bytes left : List ℕ) (i : ℕ) → i < length bytes → sets (set left i (getD bytes i 0)) (i + 1) (drop (i + 1) bytes) ≡ sets left i (drop i bytes)
+stored bytes left i h = simp add-one (ap (sets left i) (sym (drop-cons bytes i 0 h)))
+
+pub all-stored : (bytes out left : List ℕ) (i : ℕ) → length bytes ≤ length out → i ≡ length bytes → sets left i (drop i bytes) ≡ sets out 0 bytes → Wrote true bytes out (Bytes i) left
+unfolding writing
+all-stored bytes out left i h e s = record {
+  answers = ap Bytes e ∙ simp (le-leb (length bytes) (length out) h);
+  leaves = sym (ap (sets left i) (ap (λ (n : ℕ). drop n bytes) e ∙ drop-of-length-le bytes (≤-self (length bytes)))) ∙ s ∙ from-first bytes out h;
+}
+  where
+    ≤-self : (n : ℕ) → n ≤ n
+    ≤-self n = omega arith
+
+-- a good value's bytes, put
+pub wrote : {good : Bool} {bytes b out left : List ℕ} {r : Written} → good ≡ true → b ≡ bytes → Wrote true b out r left → Wrote good bytes out r left
+wrote {out = out} {left = left} {r = r} g e w = subst₂ (λ (x : Bool) (l : List ℕ). Wrote x l out r left) (sym g) e w
+
+pub refused : (good : Bool) (bytes out : List ℕ) → good ≡ false → Wrote good bytes out (Refused 8) out
+unfolding writing written
+refused good bytes out g = record { answers = simp g; leaves = refl }

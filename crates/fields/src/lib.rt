@@ -1,0 +1,25 @@
+// What the message kinds share: writing bytes to lent memory.
+ghost use mathlib.Core.Bool.{true};
+ghost use Rattle.fields.specs.Writing.{Wrote};
+
+pub enum Written {
+    // how many bytes were written
+    Bytes(usize),
+    // 01's number: 7, an uplink's payload not 432 bytes; 8, a field outside its range; 9, lent output too short
+    Refused(u8),
+}
+
+// The bytes to the start of the output, where there is room for them.
+pub fn put(bytes: &[u8], out: &mut [u8]) -> Written
+    ensures { λ r. ⌜ Wrote true (now (bytes .entry)) (now (out .entry)) r (now (out .exit)) ⌝ }
+{
+    if out.len() < bytes.len() {
+        return Written::Refused(9);
+    }
+    let mut i = 0;
+    while i < bytes.len() {
+        out[i] = bytes[i];
+        i += 1;
+    }
+    Written::Bytes(i)
+}

@@ -1,0 +1,26 @@
+-- Laws of lists of bytes.
+-- Assumes nothing.
+use mathlib.Core.Path.{_≡_, refl, ap}
+use Prim.Native.Nat.{ℕ, zero, suc, pred, _<_}
+use mathlib.Core.List.{List, [], _∷_}
+use native.Mathlib.Omega.{arith}
+use lib.ListN.{length, getD}
+use Rattle.numbers.specs.Bytes.{AreBytes}
+
+pub byte-at : (bs : List ℕ) (i : ℕ) → AreBytes bs → getD bs i 0 < 256
+unfolding AreBytes
+byte-at [] i h = omega arith
+byte-at (b ∷ bs) zero h = h .0
+byte-at (b ∷ bs) (suc i) h = byte-at bs i (h .1)
+
+-- f 0, f 1 and so on, n of them
+abbrev pub upTo : ℕ → (ℕ → ℕ) → List ℕ
+upTo zero f = []
+upTo (suc n) f = f 0 ∷ upTo n (λ i. f (suc i))
+
+-- a list of known length is its elements, one by one
+pub spread : (n : ℕ) (bs : List ℕ) → length bs ≡ n → bs ≡ upTo n (λ i. getD bs i 0)
+spread zero [] e = refl
+spread zero (b ∷ bs) e = cc
+spread (suc n) [] e = cc
+spread (suc n) (b ∷ bs) e = ap (λ (l : List ℕ). b ∷ l) (spread n bs (ap pred e))

@@ -1,0 +1,3 @@
+pub mod Exact
+pub mod Narrow
+pub mod Wide

@@ -1,0 +1,37 @@
+-- `units::magnitude` meets its contract, by the sign.
+-- Assumes nothing.
+use mathlib.Core.Path.{_≡_, sym, ap, _∙_, subst}
+use Prim.Native.Nat.{_-_}
+use native.Mathlib.Omega.{arith}
+use lib.Dec.{T}
+use lib.IntN.{ℤ, natAbs, pos, negsuc}
+use lib.Signed.{nonNeg, mag}
+use mir.Syntax.{w32}
+use mir.Val.{Fits, toZ, ofZ}
+use mir.Facts.{toZ-ofZ}
+use Rattle.units.proofs.Narrow.{negative, natural, flipped}
+use Rattle.units.proofs.magnitude.Statement.{statement}
+use Rattle.units.proofs.magnitude.Tie as tie
+
+flip : (c : tie.Then1) → toZ w32 (4294967295 - ofZ w32 (c .before .args .n)) ≡ pos (mag (c .before .args .n))
+flip c = flipped (c .before .args .n) (c .before .fits .n) (negative (c .before .args .n) (c .before .fits .n) (c .if1 .taken))
+
+same : (c : tie.Else1) → toZ w32 (ofZ w32 (c .before .args .n)) ≡ pos (mag (c .before .args .n))
+same c = toZ-ofZ (c .before .fits .n) ∙ natural (c .before .args .n) (c .before .fits .n) (c .if1 .left)
+
+cast-result : tie.Need-cast-result
+cast-result c =
+    subst (λ (z : ℤ). T (nonNeg z) × Fits w32 (natAbs z)) (sym (flip c)) (tt, record { fits = omega (arith, c .before .fits .n .sfits) })
+
+cast-result-2 : tie.Need-cast-result-2
+cast-result-2 c =
+    subst (λ (z : ℤ). T (nonNeg z) × Fits w32 (natAbs z)) (sym (same c)) (tt, record { fits = omega (arith, c .before .fits .n .sfits) })
+
+returns : tie.Need-returns
+returns c = ap natAbs (flip c)
+
+returns-2 : tie.Need-returns-2
+returns-2 c = ap natAbs (same c)
+
+pub magnitude-spec : {M : Type 1} → statement M
+magnitude-spec = tie.close (tie.spec cast-result cast-result-2 returns returns-2)
