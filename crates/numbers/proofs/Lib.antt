@@ -1,4 +1,5 @@
 pub mod Bytes
 pub mod Every
+pub mod Signed
 pub mod Storing
 pub mod Xor

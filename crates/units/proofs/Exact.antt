@@ -1,4 +1,5 @@
--- Steps as degrees lose nothing: the product by 180 has at most 31 binary digits, and the quotient by 2 ^ 23 only moves the exponent. Assumes nothing.
+-- Steps as degrees lose nothing: the product by 180 has at most 31 binary digits, and the quotient by 2 ^ 23 only moves the exponent.
+-- Assumes nothing.
 use mathlib.Core.Path.{_≡_, refl, sym, ap, _∙_, subst}
 use mathlib.Core.Bool.{Bool, true, false, cond, not}
 use Prim.Native.Nat.{ℕ, zero, suc, _+_, _-_, _*_, _/_, _%_, _^_, _≤_, _<_}

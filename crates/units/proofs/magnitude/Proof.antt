@@ -9,15 +9,15 @@ use lib.Signed.{nonNeg, mag}
 use mir.Syntax.{w32}
 use mir.Val.{Fits, toZ, ofZ}
 use mir.Facts.{toZ-ofZ}
-use Rattle.units.proofs.Narrow.{negative, natural, flipped}
+use Rattle.numbers.proofs.Signed.{negative, natural, flipped}
 use Rattle.units.proofs.magnitude.Statement.{statement}
 use Rattle.units.proofs.magnitude.Tie as tie
 
 flip : (c : tie.Then1) → toZ w32 (4294967295 - ofZ w32 (c .before .args .n)) ≡ pos (mag (c .before .args .n))
-flip c = flipped (c .before .args .n) (c .before .fits .n) (negative (c .before .args .n) (c .before .fits .n) (c .if1 .taken))
+flip c = flipped w32 (c .before .args .n) (c .before .fits .n) (negative w32 (c .before .args .n) (c .before .fits .n) (c .if1 .taken))
 
 same : (c : tie.Else1) → toZ w32 (ofZ w32 (c .before .args .n)) ≡ pos (mag (c .before .args .n))
-same c = toZ-ofZ (c .before .fits .n) ∙ natural (c .before .args .n) (c .before .fits .n) (c .if1 .left)
+same c = toZ-ofZ (c .before .fits .n) ∙ natural w32 (c .before .args .n) (c .before .fits .n) (c .if1 .left)
 
 cast-result : tie.Need-cast-result
 cast-result c =

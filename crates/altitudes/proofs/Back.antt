@@ -1,0 +1,128 @@
+-- Both directions of both kinds.
+-- Assumes nothing.
+use mathlib.Core.Path.{_≡_, refl, sym, ap, ap₂, _∙_}
+use mathlib.Core.Bool.{Bool, true, false, cond, not, _&&_}
+use Prim.Native.Nat.{ℕ, _+_, _-_, _*_, _/_, _%_, _<_}
+use mathlib.Core.List.{List, [], _∷_}
+use native.Mathlib.Omega.{arith}
+use lib.Dec.{eqb, ltb, leb}
+use lib.IntN.{ℤ, pos, negsuc}
+use lib.ListN.{length, getD}
+use lib.Signed.{mag}
+use borrow.Author.Tests.{ne-eqb, le-leb, lt-leb, eqb-true, ltb-true, leb-true, leb-false, not-true}
+use Rattle.numbers.specs.Signed.{signedIn, fieldOf}
+use Rattle.numbers.proofs.Bytes.{byte-at, spread}
+use Rattle.numbers.proofs.Signed.{field-signed, signed-field}
+use Rattle.units.specs.declared.GeometricSteps.{GeometricSteps}
+use Rattle.altitudes.specs.declared.Height.{Height}
+use Rattle.altitudes.specs.declared.Height.the-variants.{Feet, None}
+use Rattle.altitudes.specs.declared.HeightAboveTerrain.{HeightAboveTerrain}
+use Rattle.altitudes.specs.declared.Merit.{Merit}
+use Rattle.altitudes.specs.declared.Merit.the-variants.{Metres, Over, None as no-merit}
+use Rattle.altitudes.specs.declared.GeometricAltitude.{GeometricAltitude}
+use Rattle.altitudes.specs.Height.{heightOf, heightField, goodHeight, terrainIn, terrainBytes}
+use Rattle.altitudes.specs.Geometric.{meritOf, meritField, goodMerit, geometricIn, geometricBytes}
+use Rattle.altitudes.specs.Claims.{TypedHeight, TerrainWrittenRead, TerrainReadWritten, GeometricWrittenRead, GeometricReadWritten}
+
+-- 16 bits as two bytes, high byte first
+joined : (n : ℕ) → 256 * (n / 256) + n % 256 ≡ n
+joined n = omega arith
+
+field-lt : (z : ℤ) → mag z < 0x8000 → fieldOf 0x8000 z < 0x10000
+unfolding fieldOf
+field-lt (pos n) h = omega arith
+field-lt (negsuc k) h = omega arith
+
+height-back : (h : Height) → TypedHeight h → goodHeight h ≡ true → heightOf (heightField h) ≡ h
+unfolding heightOf
+height-back (Feet f) t g =
+    let plain : eqb (fieldOf 0x8000 (f .feet)) 0x8000 ≡ false = not-true _ g in
+    simp (plain, signed-field 0x8000 (f .feet) t)
+height-back None t g = refl
+
+height-there : (n : ℕ) → n < 0x10000 → heightField (heightOf n) ≡ n
+unfolding heightOf
+height-there n h = go (eqb n 0x8000) refl
+  where
+    go : (t : Bool) → eqb n 0x8000 ≡ t → heightField (cond t None (Feet (record { feet = signedIn 0x8000 n }))) ≡ n
+    go true e = sym (eqb-true n 0x8000 e)
+    go false e = field-signed 0x8000 n (omega arith)
+
+pub terrain-written-read : TerrainWrittenRead
+unfolding terrainIn terrainBytes
+terrain-written-read h t g =
+    ap {B = HeightAboveTerrain} (λ (x : Height). record { height = x }) (ap heightOf (joined (heightField (h .height))) ∙ height-back (h .height) t g)
+
+pub terrain-read-written : TerrainReadWritten
+unfolding terrainIn terrainBytes
+terrain-read-written m long bytes id =
+    let a = byte-at m 1 bytes in
+    let b = byte-at m 2 bytes in
+    let n = 256 * getD m 1 0 + getD m 2 0 in
+    let high : n / 256 ≡ getD m 1 0 = omega arith in
+    let low : n % 256 ≡ getD m 2 0 = omega arith in
+    simp (height-there n (omega arith), high, low) (sym (spread 3 m long ∙ ap (λ (x : ℕ). x ∷ getD m 1 0 ∷ getD m 2 0 ∷ []) id))
+
+pub merit-lt : (m : Merit) → goodMerit m ≡ true → meritField m < 0x8000
+merit-lt (Metres n) g = go (ltb n 0x7FFF) refl g
+  where
+    go : (t : Bool) → ltb n 0x7FFF ≡ t → t && not (eqb n 0x7EEE) ≡ true → n < 0x8000
+    go true e h = omega (arith, ltb-true n 0x7FFF e)
+    go false e h = let z : _≡_ {A = ℕ} 0 1 = cc in absurd (omega arith)
+merit-lt Over g = omega arith
+merit-lt no-merit g = omega arith
+
+merit-back : (m : Merit) → goodMerit m ≡ true → meritOf (meritField m) ≡ m
+unfolding meritOf
+merit-back (Metres n) g = go (ltb n 0x7FFF) (eqb n 0x7EEE) refl refl g
+  where
+    go : (t u : Bool) → ltb n 0x7FFF ≡ t → eqb n 0x7EEE ≡ u → t && not u ≡ true → cond (eqb n 0x7FFF) no-merit (cond (eqb n 0x7EEE) Over (Metres n)) ≡ Metres n
+    go true false e f h = simp (ne-eqb n 0x7FFF (λ q. omega (arith, ltb-true n 0x7FFF e)), f)
+    go true true e f h = let z : _≡_ {A = ℕ} 0 1 = cc in absurd (omega arith)
+    go false u e f h = let z : _≡_ {A = ℕ} 0 1 = cc in absurd (omega arith)
+merit-back Over g = refl
+merit-back no-merit g = refl
+
+merit-there : (n : ℕ) → meritField (meritOf n) ≡ n
+unfolding meritOf
+merit-there n = go (eqb n 0x7FFF) (eqb n 0x7EEE) refl refl
+  where
+    go : (t u : Bool) → eqb n 0x7FFF ≡ t → eqb n 0x7EEE ≡ u → meritField (cond t no-merit (cond u Over (Metres n))) ≡ n
+    go true u e f = sym (eqb-true n 0x7FFF e)
+    go false true e f = sym (eqb-true n 0x7EEE f)
+    go false false e f = refl
+
+-- the warning above 15 bits
+warned : (w : Bool) (n : ℕ) → n < 0x8000 → (leb 128 (cond w 128 0 + n / 256) ≡ w) × (256 * ((cond w 128 0 + n / 256) % 128) + n % 256 ≡ n)
+warned true n h = (le-leb 128 (128 + n / 256) (omega arith), omega arith)
+warned false n h = (lt-leb 128 (0 + n / 256) (omega arith), omega arith)
+
+pub geometric-written-read : GeometricWrittenRead
+unfolding geometricIn geometricBytes
+geometric-written-read g t h =
+    let w = warned (g .warning) (meritField (g .merit)) (merit-lt (g .merit) h) in
+    simp (joined (fieldOf 0x8000 (g .altitude .steps)), signed-field 0x8000 (g .altitude .steps) t, w .0, ap meritOf (w .1) ∙ merit-back (g .merit) h)
+
+-- bit 7 and the rest of a byte
+split : (b : ℕ) → b < 256 → cond (leb 128 b) 128 0 + b % 128 ≡ b
+split b h = go (leb 128 b) refl
+  where
+    go : (t : Bool) → leb 128 b ≡ t → cond t 128 0 + b % 128 ≡ b
+    go true e = omega (arith, leb-true 128 b e)
+    go false e = omega (arith, leb-false 128 b e)
+
+pub geometric-read-written : GeometricReadWritten
+unfolding geometricIn geometricBytes
+geometric-read-written m long bytes id =
+    let a = byte-at m 1 bytes in
+    let b = byte-at m 2 bytes in
+    let c = byte-at m 3 bytes in
+    let d = byte-at m 4 bytes in
+    let n = 256 * getD m 1 0 + getD m 2 0 in
+    let k = 256 * (getD m 3 0 % 128) + getD m 4 0 in
+    let n-high : n / 256 ≡ getD m 1 0 = omega arith in
+    let n-low : n % 256 ≡ getD m 2 0 = omega arith in
+    let k-high : k / 256 ≡ getD m 3 0 % 128 = omega arith in
+    let k-low : k % 256 ≡ getD m 4 0 = omega arith in
+    simp (field-signed 0x8000 n (omega arith), n-high, n-low, merit-there k, k-high, k-low, split (getD m 3 0) c)
+    (sym (spread 5 m long ∙ ap (λ (x : ℕ). x ∷ getD m 1 0 ∷ getD m 2 0 ∷ getD m 3 0 ∷ getD m 4 0 ∷ []) id))

@@ -1,0 +1,52 @@
+-- Ownship geometric altitude (001 §3.8), id 11, five bytes: signed steps of 5 feet, high byte first; then a warning in bit 15 and a
+-- figure of merit in metres in the other 15 bits: 0x7FFF none, 0x7EEE over 32,766 (01).
+-- Assumes nothing.
+use Prim.Native.Nat.{ℕ, _+_, _*_, _/_, _%_}
+use mathlib.Core.Bool.{Bool, true, cond, not, _&&_}
+use mathlib.Core.List.{List, [], _∷_}
+use lib.Dec.{eqb, ltb, leb}
+use lib.ListN.{getD}
+use Rattle.numbers.specs.Signed.{signedIn, fieldOf}
+use Rattle.fields.specs.Reading.{reading}
+use Rattle.units.specs.declared.GeometricSteps.{GeometricSteps}
+use Rattle.altitudes.specs.declared.Merit.{Merit}
+use Rattle.altitudes.specs.declared.Merit.the-variants.{Metres, Over, None}
+use Rattle.altitudes.specs.declared.GeometricAltitude.{GeometricAltitude}
+use Rattle.altitudes.specs.declared.GeometricRead.{GeometricRead}
+use Rattle.altitudes.specs.declared.GeometricRead.the-variants as read
+
+unfoldable pub meritOf : ℕ → Merit
+meritOf n = cond (eqb n 0x7FFF) None (cond (eqb n 0x7EEE) Over (Metres n))
+
+abbrev pub meritField : Merit → ℕ
+meritField (Metres n) = n
+meritField Over = 0x7EEE
+meritField None = 0x7FFF
+
+-- within 15 bits, and no mark as a plain number
+abbrev pub goodMerit : Merit → Bool
+goodMerit (Metres n) = ltb n 0x7FFF && not (eqb n 0x7EEE)
+goodMerit Over = true
+goodMerit None = true
+
+unfoldable pub geometricIn : List ℕ → GeometricAltitude
+geometricIn m = record {
+  altitude = record { steps = signedIn 0x8000 (256 * getD m 1 0 + getD m 2 0) };
+  warning = leb 128 (getD m 3 0);
+  merit = meritOf (256 * (getD m 3 0 % 128) + getD m 4 0);
+}
+
+unfoldable pub geometricBytes : GeometricAltitude → List ℕ
+geometricBytes g =
+    11
+    ∷ fieldOf 0x8000 (g .altitude .steps) / 256
+    ∷ fieldOf 0x8000 (g .altitude .steps) % 256
+    ∷ (cond (g .warning) 128 0 + meritField (g .merit) / 256)
+    ∷ meritField (g .merit) % 256
+    ∷ []
+
+abbrev pub goodGeometric : GeometricAltitude → Bool
+goodGeometric g = goodMerit (g .merit)
+
+abbrev pub readGeometric : List ℕ → GeometricRead
+readGeometric = reading 5 geometricIn goodGeometric read.Geometric read.Refused

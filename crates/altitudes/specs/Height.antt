@@ -1,0 +1,39 @@
+-- Height above terrain (001 §3.7), id 9, three bytes: signed feet, high byte first; 0x8000 is none.
+-- Assumes nothing.
+use Prim.Native.Nat.{ℕ, _+_, _*_, _/_, _%_}
+use mathlib.Core.Bool.{Bool, true, cond, not}
+use mathlib.Core.List.{List, [], _∷_}
+use lib.Dec.{eqb}
+use lib.ListN.{getD}
+use Rattle.numbers.specs.Signed.{signedIn, fieldOf}
+use Rattle.fields.specs.Reading.{reading}
+use Rattle.units.specs.declared.TerrainFeet.{TerrainFeet}
+use Rattle.altitudes.specs.declared.Height.{Height}
+use Rattle.altitudes.specs.declared.Height.the-variants.{Feet, None}
+use Rattle.altitudes.specs.declared.HeightAboveTerrain.{HeightAboveTerrain}
+use Rattle.altitudes.specs.declared.HeightRead.{HeightRead}
+use Rattle.altitudes.specs.declared.HeightRead.the-variants as read
+
+unfoldable pub heightOf : ℕ → Height
+heightOf n = cond (eqb n 0x8000) None (Feet (record { feet = signedIn 0x8000 n }))
+
+abbrev pub heightField : Height → ℕ
+heightField (Feet h) = fieldOf 0x8000 (h .feet)
+heightField None = 0x8000
+
+-- the mark is not given as a plain number
+abbrev pub goodHeight : Height → Bool
+goodHeight (Feet h) = not (eqb (fieldOf 0x8000 (h .feet)) 0x8000)
+goodHeight None = true
+
+unfoldable pub terrainIn : List ℕ → HeightAboveTerrain
+terrainIn m = record { height = heightOf (256 * getD m 1 0 + getD m 2 0) }
+
+unfoldable pub terrainBytes : HeightAboveTerrain → List ℕ
+terrainBytes h = 9 ∷ heightField (h .height) / 256 ∷ heightField (h .height) % 256 ∷ []
+
+abbrev pub goodTerrain : HeightAboveTerrain → Bool
+goodTerrain h = goodHeight (h .height)
+
+abbrev pub readTerrain : List ℕ → HeightRead
+readTerrain = reading 3 terrainIn goodTerrain read.Height read.Refused

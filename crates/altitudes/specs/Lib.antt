@@ -1,0 +1,3 @@
+pub mod Height
+pub mod Geometric
+pub mod Claims

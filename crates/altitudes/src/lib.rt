@@ -1,0 +1,250 @@
+// Height above terrain (001 §3.7) and ownship geometric altitude (001 §3.8).
+ghost use mathlib.Core.Path.{_≡_};
+ghost use mathlib.Core.Bool.{cond};
+ghost use Prim.Native.Nat.{_+_, _*_, _≤_, _<_};
+ghost use lib.ListN.{length};
+ghost use Rattle.numbers.specs.Signed.{signedIn, fieldOf};
+ghost use Rattle.fields.specs.Writing.{Wrote};
+ghost use Rattle.altitudes.specs.Height.{heightOf, heightField, goodHeight, goodTerrain, terrainIn, terrainBytes, readTerrain};
+ghost use Rattle.altitudes.specs.Geometric.{meritOf, meritField, goodMerit, goodGeometric, geometricIn, geometricBytes, readGeometric};
+use fields::Written;
+use units::GeometricSteps;
+use units::TerrainFeet;
+
+pub enum Height {
+    Feet(TerrainFeet),
+    None,
+}
+
+pub struct HeightAboveTerrain {
+    pub height: Height,
+}
+
+impl HeightAboveTerrain {
+    pub const ID: u8 = 9;
+
+    pub const LENGTH: usize = 3;
+}
+
+pub enum HeightRead {
+    Height(HeightAboveTerrain),
+    // 7, a length not 3; 8 is given to no height
+    Refused(u8),
+}
+
+// The bytes of a message whose id is 9.
+pub fn read_height(message: &[u8]) -> HeightRead
+    ensures { λ r. ⌜ r ≡ readTerrain (now (message .entry)) ⌝ }
+{
+    if message.len() != HeightAboveTerrain::LENGTH {
+        return HeightRead::Refused(7);
+    }
+    let value = terrain_in(message);
+    let height = value.height;
+    if is_good_height(height) {
+        return HeightRead::Height(value);
+    }
+    HeightRead::Refused(8)
+}
+
+fn terrain_in(message: &[u8]) -> HeightAboveTerrain
+    requires { ⌜ length (now message) ≡ 3 ⌝ }
+    ensures { λ r. ⌜ r ≡ terrainIn (now (message .entry)) ⌝ }
+{
+    let height = height_of(word(message[1], message[2]));
+    HeightAboveTerrain { height }
+}
+
+// High byte first.
+fn word(high: u8, low: u8) -> u16
+    ensures { λ r. ⌜ r ≡ 256 * high + low ⌝ }
+{
+    256 * (high as u16) + (low as u16)
+}
+
+fn height_of(n: u16) -> Height
+    ensures { λ r. ⌜ r ≡ heightOf n ⌝ }
+{
+    if n == 0x8000 {
+        return Height::None;
+    }
+    Height::Feet(TerrainFeet { feet: signed(n) })
+}
+
+fn signed(n: u16) -> i16
+    ensures { λ r. ⌜ r ≡ signedIn 0x8000 n ⌝ }
+{
+    if n < 0x8000 {
+        return n as i16;
+    }
+    !((0xFFFF - n) as i16)
+}
+
+fn field(n: i16) -> u16
+    ensures { λ r. ⌜ r ≡ fieldOf 0x8000 n ⌝ }
+{
+    if n < 0 {
+        return 0xFFFF - (!n) as u16;
+    }
+    n as u16
+}
+
+fn height_field(height: Height) -> u16
+    ensures { λ r. ⌜ r ≡ heightField height ⌝ }
+{
+    match height {
+        Height::Feet(h) => field(h.feet),
+        Height::None => 0x8000,
+    }
+}
+
+fn is_good_height(height: Height) -> bool
+    ensures { λ r. ⌜ r ≡ goodHeight height ⌝ }
+{
+    match height {
+        Height::Feet(h) => !(field(h.feet) == 0x8000),
+        Height::None => true,
+    }
+}
+
+pub fn write_height(value: HeightAboveTerrain, out: &mut [u8]) -> Written
+    ensures { λ r. ⌜ Wrote (goodTerrain value) (terrainBytes value) (now (out .entry)) r (now (out .exit)) ⌝ }
+{
+    let height = value.height;
+    if is_good_height(height) {
+        let bytes = height_bytes(value);
+        return fields::put(&bytes, out);
+    }
+    Written::Refused(8)
+}
+
+fn height_bytes(value: HeightAboveTerrain) -> [u8; 3]
+    ensures { λ r. ⌜ r ≡ terrainBytes value ⌝ }
+{
+    let height = value.height;
+    let n = height_field(height);
+    [HeightAboveTerrain::ID, (n / 256) as u8, (n % 256) as u8]
+}
+
+// A figure of merit.
+pub enum Merit {
+    Metres(u16),
+    // over 32,766 metres
+    Over,
+    None,
+}
+
+pub struct GeometricAltitude {
+    pub altitude: GeometricSteps,
+    pub warning: bool,
+    pub merit: Merit,
+}
+
+impl GeometricAltitude {
+    pub const ID: u8 = 11;
+
+    pub const LENGTH: usize = 5;
+}
+
+pub enum GeometricRead {
+    Geometric(GeometricAltitude),
+    // 7, a length not 5; 8 is given to no geometric altitude
+    Refused(u8),
+}
+
+// The bytes of a message whose id is 11.
+pub fn read_geometric(message: &[u8]) -> GeometricRead
+    ensures { λ r. ⌜ r ≡ readGeometric (now (message .entry)) ⌝ }
+{
+    if message.len() != GeometricAltitude::LENGTH {
+        return GeometricRead::Refused(7);
+    }
+    let value = geometric_in(message);
+    let merit = value.merit;
+    if is_good_merit(merit) {
+        return GeometricRead::Geometric(value);
+    }
+    GeometricRead::Refused(8)
+}
+
+fn geometric_in(message: &[u8]) -> GeometricAltitude
+    requires { ⌜ length (now message) ≡ 5 ⌝ }
+    ensures { λ r. ⌜ r ≡ geometricIn (now (message .entry)) ⌝ }
+{
+    let steps = signed(word(message[1], message[2]));
+    let altitude = GeometricSteps { steps };
+    let merit = merit_of(word(message[3] % 128, message[4]));
+    GeometricAltitude {
+        altitude,
+        warning: 128 <= message[3],
+        merit,
+    }
+}
+
+fn merit_of(n: u16) -> Merit
+    ensures { λ r. ⌜ r ≡ meritOf n ⌝ }
+{
+    if n == 0x7FFF {
+        return Merit::None;
+    }
+    if n == 0x7EEE {
+        return Merit::Over;
+    }
+    Merit::Metres(n)
+}
+
+fn merit_field(merit: Merit) -> u16
+    ensures { λ r. ⌜ r ≡ meritField merit ⌝ }
+{
+    match merit {
+        Merit::Metres(n) => n,
+        Merit::Over => 0x7EEE,
+        Merit::None => 0x7FFF,
+    }
+}
+
+fn is_good_merit(merit: Merit) -> bool
+    ensures { λ r. ⌜ r ≡ goodMerit merit ⌝ }
+{
+    match merit {
+        Merit::Metres(n) => (n < 0x7FFF) & !(n == 0x7EEE),
+        Merit::Over => true,
+        Merit::None => true,
+    }
+}
+
+pub fn write_geometric(value: GeometricAltitude, out: &mut [u8]) -> Written
+    ensures { λ r. ⌜ Wrote (goodGeometric value) (geometricBytes value) (now (out .entry)) r (now (out .exit)) ⌝ }
+{
+    let merit = value.merit;
+    if is_good_merit(merit) {
+        let bytes = geometric_bytes(value);
+        return fields::put(&bytes, out);
+    }
+    Written::Refused(8)
+}
+
+fn warning_bit(warning: bool) -> u8
+    ensures { λ r. ⌜ r ≡ cond warning 128 0 ⌝ }
+    ensures { λ r. ⌜ r ≤ 128 ⌝ }
+{
+    if warning { 128 } else { 0 }
+}
+
+fn geometric_bytes(value: GeometricAltitude) -> [u8; 5]
+    requires { ⌜ meritField (value .merit) < 0x8000 ⌝ }
+    ensures { λ r. ⌜ r ≡ geometricBytes value ⌝ }
+{
+    let altitude = value.altitude;
+    let merit = value.merit;
+    let n = field(altitude.steps);
+    let m = merit_field(merit);
+    let warning = warning_bit(value.warning);
+    [
+        GeometricAltitude::ID,
+        (n / 256) as u8,
+        (n % 256) as u8,
+        warning + (m / 256) as u8,
+        (m % 256) as u8,
+    ]
+}

@@ -1,0 +1,24 @@
+-- The initialization (001 §3.2): id 2, three bytes.
+-- Assumes nothing.
+use Prim.Native.Nat.{ℕ}
+use mathlib.Core.Bool.{Bool, true}
+use mathlib.Core.List.{List, [], _∷_}
+use lib.ListN.{getD}
+use Rattle.fields.specs.Reading.{reading}
+use Rattle.status.specs.declared.Initialization.{Initialization}
+use Rattle.status.specs.declared.InitializationRead.{InitializationRead}
+use Rattle.status.specs.declared.InitializationRead.the-variants.{Initialization as Read, Refused}
+
+-- the initialization that three bytes hold
+abbrev pub initializationIn : List ℕ → Initialization
+initializationIn m = record { first = getD m 1 0; second = getD m 2 0 }
+
+-- any two bytes are good
+abbrev pub goodInitialization : Initialization → Bool
+goodInitialization i = true
+
+abbrev pub initializationBytes : Initialization → List ℕ
+initializationBytes i = 2 ∷ i .first ∷ i .second ∷ []
+
+abbrev pub readInitialization : List ℕ → InitializationRead
+readInitialization = reading 3 initializationIn goodInitialization Read Refused

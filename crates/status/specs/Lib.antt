@@ -1,0 +1,3 @@
+pub mod Heartbeat
+pub mod Initialization
+pub mod Claims

@@ -1,0 +1,150 @@
+// What the receiver says of itself and is told: heartbeat (001 §3.1) and initialization (001 §3.2).
+ghost use mathlib.Core.Path.{_≡_};
+ghost use lib.ListN.{length};
+ghost use Rattle.fields.specs.Writing.{Wrote};
+ghost use Rattle.status.specs.Heartbeat.{timeOf, countOf, heartbeatIn, goodHeartbeat, heartbeatBytes, readHeartbeat, HeartbeatBits};
+ghost use Rattle.status.specs.Initialization.{goodInitialization, initializationBytes, readInitialization};
+
+pub struct Heartbeat {
+    pub status1: u8,
+    // bits 6 to 0; bit 7 is the time's
+    pub status2: u8,
+    // seconds since 0000Z
+    pub time: u32,
+    pub uplinks: u8,
+    pub reserved: u8,
+    pub basic_and_long: u16,
+}
+
+impl Heartbeat {
+    pub const ID: u8 = 0;
+
+    pub const LENGTH: usize = 7;
+}
+
+// The last second of a day (01).
+const LAST_SECOND: u32 = 86399;
+
+pub enum HeartbeatRead {
+    Heartbeat(Heartbeat),
+    // 01's number: 7, length; 8, a field outside its range
+    Refused(u8),
+}
+
+pub struct Initialization {
+    pub first: u8,
+    pub second: u8,
+}
+
+impl Initialization {
+    pub const ID: u8 = 2;
+
+    pub const LENGTH: usize = 3;
+}
+
+pub enum InitializationRead {
+    Initialization(Initialization),
+    // 01's number: 7, length
+    Refused(u8),
+}
+
+pub fn read_heartbeat(message: &[u8]) -> HeartbeatRead
+    ensures { λ r. ⌜ r ≡ readHeartbeat (now (message .entry)) ⌝ }
+{
+    if message.len() != Heartbeat::LENGTH {
+        return HeartbeatRead::Refused(7);
+    }
+    let heartbeat = heartbeat_in(message);
+    if is_good_heartbeat(heartbeat) {
+        HeartbeatRead::Heartbeat(heartbeat)
+    } else {
+        HeartbeatRead::Refused(8)
+    }
+}
+
+pub fn write_heartbeat(heartbeat: Heartbeat, out: &mut [u8]) -> fields::Written
+    ensures { λ r. ⌜ Wrote (goodHeartbeat heartbeat) (heartbeatBytes heartbeat) (now (out .entry)) r (now (out .exit)) ⌝ }
+{
+    if is_good_heartbeat(heartbeat) {
+        let bytes = heartbeat_bytes(heartbeat);
+        fields::put(&bytes, out)
+    } else {
+        fields::Written::Refused(8)
+    }
+}
+
+fn is_good_heartbeat(heartbeat: Heartbeat) -> bool
+    ensures { λ r. ⌜ r ≡ goodHeartbeat heartbeat ⌝ }
+{
+    (heartbeat.status2 < 128)
+        & ((heartbeat.time <= LAST_SECOND)
+            & ((heartbeat.uplinks < 32)
+                & ((heartbeat.reserved < 2) & (heartbeat.basic_and_long < 1024))))
+}
+
+fn heartbeat_in(message: &[u8]) -> Heartbeat
+    requires { ⌜ length (now message) ≡ 7 ⌝ }
+    ensures { λ r. ⌜ r ≡ heartbeatIn (now (message .entry)) ⌝ }
+{
+    let counts = message[5];
+    Heartbeat {
+        status1: message[1],
+        status2: message[2] % 128,
+        time: time_of(message[2], message[3], message[4]),
+        uplinks: counts / 8,
+        reserved: counts / 4 % 2,
+        basic_and_long: count_of(counts, message[6]),
+    }
+}
+
+fn time_of(status2: u8, low: u8, high: u8) -> u32
+    ensures { λ r. ⌜ r ≡ timeOf status2 low high ⌝ }
+{
+    (status2 as u32) / 128 * 65536 + (high as u32) * 256 + (low as u32)
+}
+
+fn count_of(high: u8, low: u8) -> u16
+    ensures { λ r. ⌜ r ≡ countOf high low ⌝ }
+{
+    (high as u16) % 4 * 256 + (low as u16)
+}
+
+fn heartbeat_bytes(heartbeat: Heartbeat) -> [u8; 7]
+    requires { ⌜ HeartbeatBits heartbeat ⌝ }
+    ensures { λ r. ⌜ r ≡ heartbeatBytes heartbeat ⌝ }
+{
+    let time = heartbeat.time;
+    let count = heartbeat.basic_and_long;
+    [
+        Heartbeat::ID,
+        heartbeat.status1,
+        (time / 65536 * 128) as u8 + heartbeat.status2,
+        (time % 256) as u8,
+        (time / 256 % 256) as u8,
+        heartbeat.uplinks * 8 + heartbeat.reserved * 4 + (count / 256) as u8,
+        (count % 256) as u8,
+    ]
+}
+
+pub fn read_initialization(message: &[u8]) -> InitializationRead
+    ensures { λ r. ⌜ r ≡ readInitialization (now (message .entry)) ⌝ }
+{
+    if message.len() != Initialization::LENGTH {
+        return InitializationRead::Refused(7);
+    }
+    InitializationRead::Initialization(Initialization {
+        first: message[1],
+        second: message[2],
+    })
+}
+
+pub fn write_initialization(initialization: Initialization, out: &mut [u8]) -> fields::Written
+    ensures { λ r. ⌜ Wrote (goodInitialization initialization) (initializationBytes initialization) (now (out .entry)) r (now (out .exit)) ⌝ }
+{
+    let bytes = [
+        Initialization::ID,
+        initialization.first,
+        initialization.second,
+    ];
+    fields::put(&bytes, out)
+}
