@@ -14,12 +14,12 @@ use Rattle.numbers.specs.Signed.{signedIn, fieldOf}
 use Rattle.numbers.proofs.Bytes.{byte-at, spread}
 use Rattle.numbers.proofs.Signed.{field-signed, signed-field}
 use Rattle.units.specs.declared.GeometricSteps.{GeometricSteps}
-use Rattle.altitudes.specs.declared.Height.{Height}
-use Rattle.altitudes.specs.declared.Height.the-variants.{Feet, None}
-use Rattle.altitudes.specs.declared.HeightAboveTerrain.{HeightAboveTerrain}
-use Rattle.altitudes.specs.declared.Merit.{Merit}
-use Rattle.altitudes.specs.declared.Merit.the-variants.{Metres, Over, None as no-merit}
-use Rattle.altitudes.specs.declared.GeometricAltitude.{GeometricAltitude}
+use Rattle.kinds.specs.declared.Height.{Height}
+use Rattle.kinds.specs.declared.Height.the-variants.{Feet, None}
+use Rattle.kinds.specs.declared.HeightAboveTerrain.{HeightAboveTerrain}
+use Rattle.kinds.specs.declared.Merit.{Merit}
+use Rattle.kinds.specs.declared.Merit.the-variants.{Metres, Over, None as no-merit}
+use Rattle.kinds.specs.declared.GeometricAltitude.{GeometricAltitude}
 use Rattle.altitudes.specs.Height.{heightOf, heightField, goodHeight, terrainIn, terrainBytes}
 use Rattle.altitudes.specs.Geometric.{meritOf, meritField, goodMerit, geometricIn, geometricBytes}
 use Rattle.altitudes.specs.Claims.{TypedHeight, TerrainWrittenRead, TerrainReadWritten, GeometricWrittenRead, GeometricReadWritten}

@@ -9,11 +9,12 @@ use lib.ListN.{getD}
 use Rattle.numbers.specs.Signed.{signedIn, fieldOf}
 use Rattle.fields.specs.Reading.{reading}
 use Rattle.units.specs.declared.GeometricSteps.{GeometricSteps}
-use Rattle.altitudes.specs.declared.Merit.{Merit}
-use Rattle.altitudes.specs.declared.Merit.the-variants.{Metres, Over, None}
-use Rattle.altitudes.specs.declared.GeometricAltitude.{GeometricAltitude}
-use Rattle.altitudes.specs.declared.GeometricRead.{GeometricRead}
-use Rattle.altitudes.specs.declared.GeometricRead.the-variants as read
+use Rattle.kinds.specs.declared.Merit.{Merit}
+use Rattle.kinds.specs.declared.Merit.the-variants.{Metres, Over, None}
+use Rattle.kinds.specs.declared.GeometricAltitude.{GeometricAltitude}
+use Rattle.kinds.specs.declared.Message.the-variants as kind
+use Rattle.kinds.specs.declared.Reading.{Reading}
+use Rattle.kinds.specs.declared.Reading.the-variants.{Message, Refused}
 
 unfoldable pub meritOf : ℕ → Merit
 meritOf n = cond (eqb n 0x7FFF) None (cond (eqb n 0x7EEE) Over (Metres n))
@@ -48,5 +49,5 @@ geometricBytes g =
 abbrev pub goodGeometric : GeometricAltitude → Bool
 goodGeometric g = goodMerit (g .merit)
 
-abbrev pub readGeometric : List ℕ → GeometricRead
-readGeometric = reading 5 geometricIn goodGeometric read.Geometric read.Refused
+abbrev pub readGeometric : List ℕ → Reading
+readGeometric = reading 5 geometricIn goodGeometric (λ x. Message (kind.Geometric x)) Refused

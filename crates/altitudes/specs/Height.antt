@@ -8,11 +8,12 @@ use lib.ListN.{getD}
 use Rattle.numbers.specs.Signed.{signedIn, fieldOf}
 use Rattle.fields.specs.Reading.{reading}
 use Rattle.units.specs.declared.TerrainFeet.{TerrainFeet}
-use Rattle.altitudes.specs.declared.Height.{Height}
-use Rattle.altitudes.specs.declared.Height.the-variants.{Feet, None}
-use Rattle.altitudes.specs.declared.HeightAboveTerrain.{HeightAboveTerrain}
-use Rattle.altitudes.specs.declared.HeightRead.{HeightRead}
-use Rattle.altitudes.specs.declared.HeightRead.the-variants as read
+use Rattle.kinds.specs.declared.Height.{Height}
+use Rattle.kinds.specs.declared.Height.the-variants.{Feet, None}
+use Rattle.kinds.specs.declared.HeightAboveTerrain.{HeightAboveTerrain}
+use Rattle.kinds.specs.declared.Message.the-variants as kind
+use Rattle.kinds.specs.declared.Reading.{Reading}
+use Rattle.kinds.specs.declared.Reading.the-variants.{Message, Refused}
 
 unfoldable pub heightOf : ℕ → Height
 heightOf n = cond (eqb n 0x8000) None (Feet (record { feet = signedIn 0x8000 n }))
@@ -35,5 +36,5 @@ terrainBytes h = 9 ∷ heightField (h .height) / 256 ∷ heightField (h .height)
 abbrev pub goodTerrain : HeightAboveTerrain → Bool
 goodTerrain h = goodHeight (h .height)
 
-abbrev pub readTerrain : List ℕ → HeightRead
-readTerrain = reading 3 terrainIn goodTerrain read.Height read.Refused
+abbrev pub readTerrain : List ℕ → Reading
+readTerrain = reading 3 terrainIn goodTerrain (λ x. Message (kind.Height x)) Refused

@@ -8,43 +8,28 @@ ghost use Rattle.fields.specs.Writing.{Wrote};
 ghost use Rattle.altitudes.specs.Height.{heightOf, heightField, goodHeight, goodTerrain, terrainIn, terrainBytes, readTerrain};
 ghost use Rattle.altitudes.specs.Geometric.{meritOf, meritField, goodMerit, goodGeometric, geometricIn, geometricBytes, readGeometric};
 use fields::Written;
+use kinds::GeometricAltitude;
+use kinds::Height;
+use kinds::HeightAboveTerrain;
+use kinds::Merit;
+use kinds::Message;
+use kinds::Reading;
 use units::GeometricSteps;
 use units::TerrainFeet;
 
-pub enum Height {
-    Feet(TerrainFeet),
-    None,
-}
-
-pub struct HeightAboveTerrain {
-    pub height: Height,
-}
-
-impl HeightAboveTerrain {
-    pub const ID: u8 = 9;
-
-    pub const LENGTH: usize = 3;
-}
-
-pub enum HeightRead {
-    Height(HeightAboveTerrain),
-    // 7, a length not 3; 8 is given to no height
-    Refused(u8),
-}
-
 // The bytes of a message whose id is 9.
-pub fn read_height(message: &[u8]) -> HeightRead
+pub fn read_height(message: &[u8]) -> Reading
     ensures { λ r. ⌜ r ≡ readTerrain (now (message .entry)) ⌝ }
 {
     if message.len() != HeightAboveTerrain::LENGTH {
-        return HeightRead::Refused(7);
+        return Reading::Refused(7);
     }
     let value = terrain_in(message);
     let height = value.height;
     if is_good_height(height) {
-        return HeightRead::Height(value);
+        return Reading::Message(Message::Height(value));
     }
-    HeightRead::Refused(8)
+    Reading::Refused(8)
 }
 
 fn terrain_in(message: &[u8]) -> HeightAboveTerrain
@@ -126,45 +111,19 @@ fn height_bytes(value: HeightAboveTerrain) -> [u8; 3]
     [HeightAboveTerrain::ID, (n / 256) as u8, (n % 256) as u8]
 }
 
-// A figure of merit.
-pub enum Merit {
-    Metres(u16),
-    // over 32,766 metres
-    Over,
-    None,
-}
-
-pub struct GeometricAltitude {
-    pub altitude: GeometricSteps,
-    pub warning: bool,
-    pub merit: Merit,
-}
-
-impl GeometricAltitude {
-    pub const ID: u8 = 11;
-
-    pub const LENGTH: usize = 5;
-}
-
-pub enum GeometricRead {
-    Geometric(GeometricAltitude),
-    // 7, a length not 5; 8 is given to no geometric altitude
-    Refused(u8),
-}
-
 // The bytes of a message whose id is 11.
-pub fn read_geometric(message: &[u8]) -> GeometricRead
+pub fn read_geometric(message: &[u8]) -> Reading
     ensures { λ r. ⌜ r ≡ readGeometric (now (message .entry)) ⌝ }
 {
     if message.len() != GeometricAltitude::LENGTH {
-        return GeometricRead::Refused(7);
+        return Reading::Refused(7);
     }
     let value = geometric_in(message);
     let merit = value.merit;
     if is_good_merit(merit) {
-        return GeometricRead::Geometric(value);
+        return Reading::Message(Message::Geometric(value));
     }
-    GeometricRead::Refused(8)
+    Reading::Refused(8)
 }
 
 fn geometric_in(message: &[u8]) -> GeometricAltitude

@@ -6,6 +6,7 @@ use Prim.Native.Nat.{ℕ, _+_, _≤_, _<_}
 use mathlib.Core.List.{List, [], _∷_}
 use native.Mathlib.Omega.{arith}
 use native.Mathlib.Numerals.{add-one}
+use lib.Dec.{eqb}
 use lib.ListN.{length, drop, getD, set, drop-of-length-le}
 use lib.Seq.{sets, drop-cons}
 use borrow.Author.Tests.{eq-eqb, ne-eqb, le-leb, lt-leb}
@@ -56,3 +57,16 @@ module _ {X R : Type 0} (size : ℕ) (value : List ℕ → X) (good : X → Bool
     pub read-bad : t ≡ false → refusal 8 ≡ reading size value good accepted refusal m
     unfolding reading
     read-bad n = simp (eq-eqb (length m) size e, ap good (sym h) ∙ sym g ∙ n)
+
+-- a reading of one kind, as one of all kinds
+pub lifted : {X Y R S : Type 0} (size : ℕ) (value : List ℕ → X) (good : X → Bool) (accepted : X → R) (refusal : ℕ → R) (wrap : X → Y) (good′ : Y → Bool) (accepted′ : Y → S) (refusal′ : ℕ → S) (to : R → S)
+    → ((x : X) → good x ≡ good′ (wrap x)) → ((x : X) → to (accepted x) ≡ accepted′ (wrap x)) → ((k : ℕ) → to (refusal k) ≡ refusal′ k)
+    → (m : List ℕ) → to (reading size value good accepted refusal m) ≡ reading size (λ m. wrap (value m)) good′ accepted′ refusal′ m
+unfolding reading
+lifted size value good accepted refusal wrap good′ accepted′ refusal′ to g a r m = go (eqb (length m) size) (good (value m)) (g (value m))
+  where
+    go : (t u : Bool) → u ≡ good′ (wrap (value m))
+        → to (cond t (cond u (accepted (value m)) (refusal 8)) (refusal 7)) ≡ cond t (cond (good′ (wrap (value m))) (accepted′ (wrap (value m))) (refusal′ 8)) (refusal′ 7)
+    go true true e = a (value m) ∙ simp (sym e)
+    go true false e = r 8 ∙ simp (sym e)
+    go false u e = r 7

@@ -10,7 +10,7 @@ use lib.ListN.{length, getD}
 use denote.Floats.{passes}
 use Rattle.numbers.proofs.Bytes.{byte-at, spread, upTo}
 use Rattle.numbers.proofs.Every.{left, right}
-use Rattle.status.specs.declared.Heartbeat.{Heartbeat}
+use Rattle.kinds.specs.declared.Heartbeat.{Heartbeat}
 use Rattle.status.specs.Heartbeat.{lastSecond, timeOf, countOf, heartbeatIn, goodHeartbeat, HeartbeatBits}
 use Rattle.fields.specs.Reading.{reading}
 use Rattle.status.specs.Claims.{HeartbeatWrittenRead, HeartbeatReadWritten, Values}

@@ -6,9 +6,10 @@ use Prim.Native.Nat.{ℕ}
 use mathlib.Core.List.{List, [], _∷_}
 use lib.ListN.{length, getD}
 use Rattle.numbers.specs.Bytes.{AreBytes}
-use Rattle.status.specs.declared.Heartbeat.{Heartbeat}
-use Rattle.status.specs.declared.HeartbeatRead.the-variants.{Heartbeat as Read, Refused}
-use Rattle.status.specs.declared.Initialization.{Initialization}
+use Rattle.kinds.specs.declared.Heartbeat.{Heartbeat}
+use Rattle.kinds.specs.declared.Message.the-variants as kind
+use Rattle.kinds.specs.declared.Reading.the-variants.{Message, Refused}
+use Rattle.kinds.specs.declared.Initialization.{Initialization}
 use Rattle.status.specs.Heartbeat.{heartbeatIn, goodHeartbeat, heartbeatBytes, readHeartbeat}
 use Rattle.status.specs.Initialization.{initializationIn, goodInitialization, initializationBytes}
 
@@ -43,7 +44,7 @@ heartbeat status1 status2 time uplinks count = record {
 -- 01's value 1, 001 §3.1.4's example, 01's value 7
 abbrev pub Values : Type 0
 Values =
-    (readHeartbeat (0x00 ∷ 0x81 ∷ 0x41 ∷ 0xDB ∷ 0xD0 ∷ 0x08 ∷ 0x02 ∷ []) ≡ Read (heartbeat 0x81 0x41 53467 1 2))
-    × (readHeartbeat (0x00 ∷ 0x81 ∷ 0x41 ∷ 0xDB ∷ 0xD0 ∷ 0x22 ∷ 0x37 ∷ []) ≡ Read (heartbeat 0x81 0x41 53467 4 567))
-    × (readHeartbeat (0x00 ∷ 0x81 ∷ 0xC1 ∷ 0x7F ∷ 0x51 ∷ 0x08 ∷ 0x02 ∷ []) ≡ Read (heartbeat 0x81 0x41 86399 1 2))
+    (readHeartbeat (0x00 ∷ 0x81 ∷ 0x41 ∷ 0xDB ∷ 0xD0 ∷ 0x08 ∷ 0x02 ∷ []) ≡ Message (kind.Heartbeat (heartbeat 0x81 0x41 53467 1 2)))
+    × (readHeartbeat (0x00 ∷ 0x81 ∷ 0x41 ∷ 0xDB ∷ 0xD0 ∷ 0x22 ∷ 0x37 ∷ []) ≡ Message (kind.Heartbeat (heartbeat 0x81 0x41 53467 4 567)))
+    × (readHeartbeat (0x00 ∷ 0x81 ∷ 0xC1 ∷ 0x7F ∷ 0x51 ∷ 0x08 ∷ 0x02 ∷ []) ≡ Message (kind.Heartbeat (heartbeat 0x81 0x41 86399 1 2)))
     × (readHeartbeat (0x00 ∷ 0x81 ∷ 0xC1 ∷ 0x80 ∷ 0x51 ∷ 0x08 ∷ 0x02 ∷ []) ≡ Refused 8)

@@ -6,9 +6,10 @@ use mathlib.Core.List.{List, [], _∷_}
 use lib.Dec.{ltb, leb}
 use lib.ListN.{getD}
 use Rattle.fields.specs.Reading.{reading}
-use Rattle.status.specs.declared.Heartbeat.{Heartbeat}
-use Rattle.status.specs.declared.HeartbeatRead.{HeartbeatRead}
-use Rattle.status.specs.declared.HeartbeatRead.the-variants.{Heartbeat as Read, Refused}
+use Rattle.kinds.specs.declared.Heartbeat.{Heartbeat}
+use Rattle.kinds.specs.declared.Message.the-variants as kind
+use Rattle.kinds.specs.declared.Reading.{Reading}
+use Rattle.kinds.specs.declared.Reading.the-variants.{Message, Refused}
 
 -- the last second of a day (01)
 abbrev pub lastSecond : ℕ
@@ -51,8 +52,8 @@ heartbeatBytes h =
     ∷ (h .«basic_and_long» % 256)
     ∷ []
 
-abbrev pub readHeartbeat : List ℕ → HeartbeatRead
-readHeartbeat = reading 7 heartbeatIn goodHeartbeat Read Refused
+abbrev pub readHeartbeat : List ℕ → Reading
+readHeartbeat = reading 7 heartbeatIn goodHeartbeat (λ h. Message (kind.Heartbeat h)) Refused
 
 -- each field within its bits
 pub record HeartbeatBits (h : Heartbeat) : Type 0 where

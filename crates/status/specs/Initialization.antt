@@ -5,9 +5,10 @@ use mathlib.Core.Bool.{Bool, true}
 use mathlib.Core.List.{List, [], _∷_}
 use lib.ListN.{getD}
 use Rattle.fields.specs.Reading.{reading}
-use Rattle.status.specs.declared.Initialization.{Initialization}
-use Rattle.status.specs.declared.InitializationRead.{InitializationRead}
-use Rattle.status.specs.declared.InitializationRead.the-variants.{Initialization as Read, Refused}
+use Rattle.kinds.specs.declared.Initialization.{Initialization}
+use Rattle.kinds.specs.declared.Message.the-variants as kind
+use Rattle.kinds.specs.declared.Reading.{Reading}
+use Rattle.kinds.specs.declared.Reading.the-variants.{Message, Refused}
 
 -- the initialization that three bytes hold
 abbrev pub initializationIn : List ℕ → Initialization
@@ -20,5 +21,5 @@ goodInitialization i = true
 abbrev pub initializationBytes : Initialization → List ℕ
 initializationBytes i = 2 ∷ i .first ∷ i .second ∷ []
 
-abbrev pub readInitialization : List ℕ → InitializationRead
-readInitialization = reading 3 initializationIn goodInitialization Read Refused
+abbrev pub readInitialization : List ℕ → Reading
+readInitialization = reading 3 initializationIn goodInitialization (λ i. Message (kind.Initialization i)) Refused

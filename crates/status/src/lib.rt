@@ -4,61 +4,25 @@ ghost use lib.ListN.{length};
 ghost use Rattle.fields.specs.Writing.{Wrote};
 ghost use Rattle.status.specs.Heartbeat.{timeOf, countOf, heartbeatIn, goodHeartbeat, heartbeatBytes, readHeartbeat, HeartbeatBits};
 ghost use Rattle.status.specs.Initialization.{goodInitialization, initializationBytes, readInitialization};
-
-pub struct Heartbeat {
-    pub status1: u8,
-    // bits 6 to 0; bit 7 is the time's
-    pub status2: u8,
-    // seconds since 0000Z
-    pub time: u32,
-    pub uplinks: u8,
-    pub reserved: u8,
-    pub basic_and_long: u16,
-}
-
-impl Heartbeat {
-    pub const ID: u8 = 0;
-
-    pub const LENGTH: usize = 7;
-}
+use kinds::Heartbeat;
+use kinds::Initialization;
+use kinds::Message;
+use kinds::Reading;
 
 // The last second of a day (01).
 const LAST_SECOND: u32 = 86399;
 
-pub enum HeartbeatRead {
-    Heartbeat(Heartbeat),
-    // 01's number: 7, length; 8, a field outside its range
-    Refused(u8),
-}
-
-pub struct Initialization {
-    pub first: u8,
-    pub second: u8,
-}
-
-impl Initialization {
-    pub const ID: u8 = 2;
-
-    pub const LENGTH: usize = 3;
-}
-
-pub enum InitializationRead {
-    Initialization(Initialization),
-    // 01's number: 7, length
-    Refused(u8),
-}
-
-pub fn read_heartbeat(message: &[u8]) -> HeartbeatRead
+pub fn read_heartbeat(message: &[u8]) -> Reading
     ensures { λ r. ⌜ r ≡ readHeartbeat (now (message .entry)) ⌝ }
 {
     if message.len() != Heartbeat::LENGTH {
-        return HeartbeatRead::Refused(7);
+        return Reading::Refused(7);
     }
     let heartbeat = heartbeat_in(message);
     if is_good_heartbeat(heartbeat) {
-        HeartbeatRead::Heartbeat(heartbeat)
+        Reading::Message(Message::Heartbeat(heartbeat))
     } else {
-        HeartbeatRead::Refused(8)
+        Reading::Refused(8)
     }
 }
 
@@ -126,16 +90,16 @@ fn heartbeat_bytes(heartbeat: Heartbeat) -> [u8; 7]
     ]
 }
 
-pub fn read_initialization(message: &[u8]) -> InitializationRead
+pub fn read_initialization(message: &[u8]) -> Reading
     ensures { λ r. ⌜ r ≡ readInitialization (now (message .entry)) ⌝ }
 {
     if message.len() != Initialization::LENGTH {
-        return InitializationRead::Refused(7);
+        return Reading::Refused(7);
     }
-    InitializationRead::Initialization(Initialization {
+    Reading::Message(Message::Initialization(Initialization {
         first: message[1],
         second: message[2],
-    })
+    }))
 }
 
 pub fn write_initialization(initialization: Initialization, out: &mut [u8]) -> fields::Written

@@ -4,15 +4,10 @@
 use crate::collecting::ROOM;
 use crate::fcs::check_sequence;
 use crate::framing::{frame, stuff, Framed, ESCAPE, FLAG, MESSAGE_MAX};
+use crate::messages::{HEARTBEAT_ID, OWNSHIP_ID, TRAFFIC_ID, UPLINK_ID};
 use crate::xorshift::Xorshift;
 
 const SPEED_LENGTH: usize = 1 << 20;
-
-/// Ids of 001 §3.
-const HEARTBEAT_ID: u8 = 0;
-const UPLINK_ID: u8 = 7;
-const OWNSHIP_ID: u8 = 10;
-const TRAFFIC_ID: u8 = 20;
 
 /// Makes what is sent in place of the message's frame.
 type Damage = fn(&mut Xorshift, &[u8]) -> Vec<u8>;
@@ -133,7 +128,7 @@ fn damaged(random: &mut Xorshift, message: &[u8]) -> Vec<u8> {
 }
 
 /// Flips one to four bits.
-fn flip_bits(random: &mut Xorshift, bytes: &mut [u8]) {
+pub(crate) fn flip_bits(random: &mut Xorshift, bytes: &mut [u8]) {
     for _ in 0..=random.below(4) {
         let at = random.below(bytes.len());
         bytes[at] ^= 1 << random.below(8);
