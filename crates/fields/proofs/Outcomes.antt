@@ -9,7 +9,7 @@ use native.Mathlib.Numerals.{add-one}
 use lib.Dec.{eqb}
 use lib.ListN.{length, drop, getD, set, drop-of-length-le}
 use lib.Seq.{sets, drop-cons}
-use borrow.Author.Tests.{eq-eqb, ne-eqb, le-leb, lt-leb}
+use borrow.Author.Tests.{eq-eqb, ne-eqb, eqb-true, le-leb, lt-leb}
 use Rattle.numbers.specs.Lent.{written}
 use Rattle.numbers.proofs.Storing.{from-first}
 use Rattle.fields.specs.declared.Written.{Written}
@@ -58,15 +58,20 @@ module _ {X R : Type 0} (size : ℕ) (value : List ℕ → X) (good : X → Bool
     unfolding reading
     read-bad n = simp (eq-eqb (length m) size e, ap good (sym h) ∙ sym g ∙ n)
 
--- a reading of one kind, as one of all kinds
-pub lifted : {X Y R S : Type 0} (size : ℕ) (value : List ℕ → X) (good : X → Bool) (accepted : X → R) (refusal : ℕ → R) (wrap : X → Y) (good′ : Y → Bool) (accepted′ : Y → S) (refusal′ : ℕ → S) (to : R → S)
-    → ((x : X) → good x ≡ good′ (wrap x)) → ((x : X) → to (accepted x) ≡ accepted′ (wrap x)) → ((k : ℕ) → to (refusal k) ≡ refusal′ k)
-    → (m : List ℕ) → to (reading size value good accepted refusal m) ≡ reading size (λ m. wrap (value m)) good′ accepted′ refusal′ m
-unfolding reading
-lifted size value good accepted refusal wrap good′ accepted′ refusal′ to g a r m = go (eqb (length m) size) (good (value m)) (g (value m))
-  where
-    go : (t u : Bool) → u ≡ good′ (wrap (value m))
-        → to (cond t (cond u (accepted (value m)) (refusal 8)) (refusal 7)) ≡ cond t (cond (good′ (wrap (value m))) (accepted′ (wrap (value m))) (refusal′ 8)) (refusal′ 7)
-    go true true e = a (value m) ∙ simp (sym e)
-    go true false e = r 8 ∙ simp (sym e)
-    go false u e = r 7
+module _ {X R : Type 0} (size : ℕ) (value : List ℕ → X) (good : X → Bool) (accepted : X → R) (refusal : ℕ → R) (m : List ℕ) where
+  -- bytes that hold a good value are read as it
+  pub read-back : (x : X) → length m ≡ size → value m ≡ x → good x ≡ true → reading size value good accepted refusal m ≡ accepted x
+  unfolding reading
+  read-back x e h g = simp (eq-eqb (length m) size e, h, g)
+
+  -- what is accepted has the size, and is the good value that the bytes hold
+  pub read-only : (z : R) → ((k : ℕ) → refusal k ≡ z → ⊥) → reading size value good accepted refusal m ≡ z
+      → (length m ≡ size) × (good (value m) ≡ true) × (accepted (value m) ≡ z)
+  unfolding reading
+  read-only z never = go (eqb (length m) size) refl (good (value m)) refl
+    where
+      go : (t : Bool) → eqb (length m) size ≡ t → (u : Bool) → good (value m) ≡ u → cond t (cond u (accepted (value m)) (refusal 8)) (refusal 7) ≡ z
+          → (length m ≡ size) × (good (value m) ≡ true) × (accepted (value m) ≡ z)
+      go true e true g h = (eqb-true (length m) size e, g, h)
+      go true e false g h = absurd (never 8 h)
+      go false e u g h = absurd (never 7 h)
