@@ -1,0 +1,4 @@
+pub mod Parts
+pub mod Receptions
+pub mod PassThroughs
+pub mod Uplinks

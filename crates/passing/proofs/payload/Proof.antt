@@ -1,0 +1,92 @@
+-- `passing::payload` meets its contract: what is read as an uplink has 436 bytes.
+-- Assumes nothing.
+use borrow.Author.Needs.{needs}
+use Rattle.passing.proofs.Uplinks.{sized}
+use Rattle.passing.specs.Uplink.{payloadOf}
+use lib.Seq.{take-all}
+use lib.ListN.{length, drop, length-drop}
+use Prim.Native.Nat.{_-_}
+use native.Mathlib.Omega.{arith}
+use mathlib.Core.Path.{_∙_}
+use borrow.Author.Tests.{eq-eqb, ne-eqb}
+use Rattle.passing.proofs.payload.Statement.{statement}
+use Rattle.passing.proofs.payload.Tie as tie
+
+read-uplink-requires : tie.Need-read-uplink-requires
+read-uplink-requires c κs = search needs
+
+enum-told : tie.Need-enum-told
+enum-told c = search needs
+
+enum-told-2 : tie.Need-enum-told-2
+enum-told-2 c = search needs
+
+sub-result : tie.Need-sub-result
+sub-result c = search needs
+
+part-result-start : tie.Need-part-result-start
+part-result-start c = search needs
+
+part-result-end : tie.Need-part-result-end
+part-result-end c = search needs
+
+returns : tie.Need-returns
+unfolding payloadOf
+returns c = simp (← c .before .before .before .read-uplink .ensures, c .before .enum-told2 .given .1)
+
+shared-slice-read-if1 : tie.Need-shared-slice-read-if1
+shared-slice-read-if1 c =
+    omega (arith, sized _ (c .before .before .before .read-uplink .ensures) (c .before .enum-told .given .1))
+
+sub-result-2 : tie.Need-sub-result-2
+sub-result-2 c = search needs
+
+part-result-start-2 : tie.Need-part-result-start-2
+part-result-start-2 c = search needs
+
+part-result-end-2 : tie.Need-part-result-end-2
+part-result-end-2 c = search needs
+
+returns-2 : tie.Need-returns-2
+unfolding payloadOf
+returns-2 c = simp (← c .before .before .before .before .before .read-uplink .ensures, c .before .before .before .enum-told .given .1, ne-eqb _ 7 (c .before .if1 .taken))
+
+sub-result-3 : tie.Need-sub-result-3
+sub-result-3 c =
+    omega (arith, sized _ (c .before .before .before .before .read-uplink .ensures) (c .before .before .enum-told .given .1))
+
+part-result-start-3 : tie.Need-part-result-start-3
+part-result-start-3 c =
+    omega (arith, sized _ (c .before .before .before .before .read-uplink .ensures) (c .before .before .enum-told .given .1))
+
+part-result-end-3 : tie.Need-part-result-end-3
+part-result-end-3 c = search needs
+
+returns-3 : tie.Need-returns-3
+unfolding payloadOf
+returns-3 c =
+    let r = c .before .before .before .before .before in
+    let m = r .before .before .args .message .now in
+    take-all (length m - 4) (drop 4 m) (omega (arith, length-drop 4 m))
+    ∙ simp (← r .read-uplink .ensures, c .before .before .before .enum-told .given .1, eq-eqb _ 7 (c .before .if1 .left))
+
+pub payload-spec : {M : Type 1} → statement M
+payload-spec =
+    tie.close
+    (tie.spec
+    read-uplink-requires
+    enum-told
+    enum-told-2
+    sub-result
+    part-result-start
+    part-result-end
+    returns
+    shared-slice-read-if1
+    sub-result-2
+    part-result-start-2
+    part-result-end-2
+    returns-2
+    sub-result-3
+    part-result-start-3
+    part-result-end-3
+    returns-3)

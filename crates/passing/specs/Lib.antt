@@ -1,0 +1,4 @@
+pub mod Reception
+pub mod PassThrough
+pub mod Uplink
+pub mod Claims

@@ -1,0 +1,74 @@
+-- Basic and long pass-through (001 §3.6): ids 30 and 31, 22 and 38 bytes.
+-- Assumes nothing.
+use Prim.Native.Nat.{ℕ, _+_}
+use mathlib.Core.Bool.{Bool}
+use mathlib.Core.List.{List, [], _∷_, _++_}
+use lib.ListN.{getD}
+use Rattle.fields.specs.Reading.{reading}
+use Rattle.kinds.specs.declared.Bytes8.{Bytes8}
+use Rattle.kinds.specs.declared.BasicPassThrough.{BasicPassThrough}
+use Rattle.kinds.specs.declared.LongPassThrough.{LongPassThrough}
+use Rattle.kinds.specs.declared.Message.the-variants as kind
+use Rattle.kinds.specs.declared.Reading.{Reading}
+use Rattle.kinds.specs.declared.Reading.the-variants.{Message, Refused}
+use Rattle.passing.specs.Reception.{receptionIn, goodReception, received}
+
+-- eight bytes from a place on
+abbrev pub eightAt : List ℕ → ℕ → Bytes8
+eightAt m at = record {
+  0 = getD m at 0;
+  1 = getD m (at + 1) 0;
+  2 = getD m (at + 2) 0;
+  3 = getD m (at + 3) 0;
+  4 = getD m (at + 4) 0;
+  5 = getD m (at + 5) 0;
+  6 = getD m (at + 6) 0;
+  7 = getD m (at + 7) 0;
+}
+
+abbrev pub eight : Bytes8 → List ℕ
+eight b = b .0 ∷ b .1 ∷ b .2 ∷ b .3 ∷ b .4 ∷ b .5 ∷ b .6 ∷ b .7 ∷ []
+
+unfoldable pub basicPassThroughIn : List ℕ → BasicPassThrough
+basicPassThroughIn m = record {
+  reception = receptionIn m;
+  a = eightAt m 4;
+  b = eightAt m 12;
+  e = getD m 20 0;
+  f = getD m 21 0;
+}
+
+abbrev pub goodBasicPassThrough : BasicPassThrough → Bool
+goodBasicPassThrough p = goodReception (p .reception)
+
+abbrev pub basicPayload : BasicPassThrough → List ℕ
+basicPayload p = eight (p .a) ++ (eight (p .b) ++ (p .e ∷ p .f ∷ []))
+
+abbrev pub basicPassThroughBytes : BasicPassThrough → List ℕ
+basicPassThroughBytes p = received 30 (p .reception) (basicPayload p)
+
+abbrev pub readBasicPassThrough : List ℕ → Reading
+readBasicPassThrough = reading 22 basicPassThroughIn goodBasicPassThrough (λ p. Message (kind.Basic p)) Refused
+
+unfoldable pub longPassThroughIn : List ℕ → LongPassThrough
+longPassThroughIn m = record {
+  reception = receptionIn m;
+  a = eightAt m 4;
+  b = eightAt m 12;
+  c = eightAt m 20;
+  d = eightAt m 28;
+  e = getD m 36 0;
+  f = getD m 37 0;
+}
+
+abbrev pub goodLongPassThrough : LongPassThrough → Bool
+goodLongPassThrough p = goodReception (p .reception)
+
+abbrev pub longPayload : LongPassThrough → List ℕ
+longPayload p = eight (p .a) ++ (eight (p .b) ++ (eight (p .c) ++ (eight (p .d) ++ (p .e ∷ p .f ∷ []))))
+
+abbrev pub longPassThroughBytes : LongPassThrough → List ℕ
+longPassThroughBytes p = received 31 (p .reception) (longPayload p)
+
+abbrev pub readLongPassThrough : List ℕ → Reading
+readLongPassThrough = reading 38 longPassThroughIn goodLongPassThrough (λ p. Message (kind.Long p)) Refused

@@ -1,0 +1,36 @@
+-- The time of reception (001 §3.3.1), and the messages that start with one.
+-- Assumes nothing.
+use Prim.Native.Nat.{ℕ, _+_, _*_, _/_, _%_}
+use mathlib.Core.Bool.{Bool, true, cond}
+use mathlib.Core.List.{List, _∷_}
+use lib.Dec.{eqb, leb}
+use lib.ListN.{getD}
+use Rattle.kinds.specs.declared.Reception.{Reception}
+use Rattle.kinds.specs.declared.Reception.the-variants.{Steps, None}
+
+-- three bytes, low first; all ones are none
+unfoldable pub receptionOf : ℕ → ℕ → ℕ → Reception
+receptionOf low middle high =
+    cond (eqb (high * 65536 + middle * 256 + low) 0xFFFFFF) None (Steps (high * 65536 + middle * 256 + low))
+
+-- behind the id
+abbrev pub receptionIn : List ℕ → Reception
+receptionIn m = receptionOf (getD m 1 0) (getD m 2 0) (getD m 3 0)
+
+-- within the second, or none
+abbrev pub goodReception : Reception → Bool
+goodReception (Steps n) = leb n 12499999
+goodReception None = true
+
+abbrev pub receptionNumber : Reception → ℕ
+receptionNumber (Steps n) = n
+receptionNumber None = 0xFFFFFF
+
+-- a message: id, time of reception, payload
+abbrev pub received : ℕ → Reception → List ℕ → List ℕ
+received id r payload =
+    id
+    ∷ (receptionNumber r % 256)
+    ∷ (receptionNumber r / 256 % 256)
+    ∷ (receptionNumber r / 65536 % 256)
+    ∷ payload

@@ -1,0 +1,47 @@
+-- The uplink (001 §3.3): id 7, 436 bytes, of which the payload is 432.
+-- Assumes nothing.
+use mathlib.Core.Path.{_≡_}
+use Prim.Native.Nat.{ℕ}
+use mathlib.Core.Bool.{Bool, true, false, cond, _&&_}
+use mathlib.Core.List.{List, []}
+use lib.Dec.{eqb}
+use lib.ListN.{length, drop, getD}
+use Rattle.numbers.specs.Lent.{written}
+use Rattle.fields.specs.Reading.{reading}
+use Rattle.fields.specs.declared.Written.{Written}
+use Rattle.fields.specs.declared.Written.the-variants.{Refused as RefusedWriting}
+use Rattle.fields.specs.Writing.{writing, output}
+use Rattle.kinds.specs.declared.Uplink.{Uplink}
+use Rattle.kinds.specs.declared.Message.the-variants as kind
+use Rattle.kinds.specs.declared.Reading.{Reading}
+use Rattle.kinds.specs.declared.Reading.the-variants.{Message, Refused}
+use Rattle.passing.specs.Reception.{receptionIn, goodReception, received}
+
+abbrev pub uplinkIn : List ℕ → Uplink
+uplinkIn m = record { reception = receptionIn m }
+
+abbrev pub goodUplink : Uplink → Bool
+goodUplink u = goodReception (u .reception)
+
+abbrev pub uplinkBytes : Uplink → List ℕ → List ℕ
+uplinkBytes u payload = received 7 (u .reception) payload
+
+abbrev pub readUplink : List ℕ → Reading
+readUplink = reading 436 uplinkIn goodUplink (λ u. Message (kind.Uplink u)) Refused
+
+abbrev pub accepted : Reading → Bool
+accepted (Message x) = true
+accepted (Refused k) = false
+
+-- the message from its fifth byte on, where it is an uplink
+unfoldable pub payloadOf : List ℕ → List ℕ
+payloadOf m = cond (accepted (readUplink m) && eqb (getD m 0 0) 7) (drop 4 m) []
+
+-- 7 unless the payload has 432 bytes; then as every kind
+unfoldable pub writingUplink : Uplink → List ℕ → ℕ → Written
+writingUplink u payload room =
+    cond (eqb (length payload) 432) (writing (goodUplink u) (uplinkBytes u payload) room) (RefusedWriting 7)
+
+pub record WroteUplink (u : Uplink) (payload out : List ℕ) (answer : Written) (left : List ℕ) : Type 0 where
+  pub answers : answer ≡ writingUplink u payload (length out)
+  pub leaves : left ≡ written (output answer (uplinkBytes u payload)) out

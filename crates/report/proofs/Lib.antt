@@ -1,0 +1,4 @@
+pub mod Laws
+pub mod Marked
+pub mod Narrow
+pub mod Packing

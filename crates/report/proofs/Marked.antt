@@ -1,0 +1,158 @@
+-- Each field and the number that stands for it hold the same: from the number and back, and from a good field and back.
+-- Assumes nothing.
+use mathlib.Core.Path.{_≡_, refl, sym, ap}
+use mathlib.Core.Bool.{Bool, true, false, cond, Bool·beq, _&&_}
+use Prim.Native.Nat.{ℕ, _≤_, _<_}
+use native.Mathlib.Omega.{arith}
+use lib.Dec.{eqb, ltb, eqb→eq}
+use lib.IntN.{ℤ, pos, negsuc}
+use lib.Signed.{mag}
+use borrow.Author.Tests.{ne-eqb, ltb-true, eqb-true, leb-true}
+use Rattle.numbers.proofs.Every.{every, at}
+use Rattle.numbers.proofs.Signed.{field-signed, signed-field}
+use Rattle.numbers.specs.Signed.{signedIn, fieldOf}
+use Rattle.report.specs.Reading.{between}
+use Rattle.report.specs.Marks.{noneMark, positionOf, isNone, placeOf, altitudeOf, stepsOr, kindOf, kindNumber, bit, speedOf, knotsOr, climbOf, climbOr}
+use Rattle.report.specs.Reading.{goodPosition}
+use Rattle.report.proofs.Narrow.{field-fits, both, sized}
+use Rattle.kinds.specs.declared.Position.{Position}
+use Rattle.kinds.specs.declared.Position.the-variants.{At, None as no-position}
+use Rattle.kinds.specs.declared.Altitude.{Altitude}
+use Rattle.kinds.specs.declared.Altitude.the-variants.{Known, None as no-altitude}
+use Rattle.kinds.specs.declared.TrackKind.{TrackKind}
+use Rattle.kinds.specs.declared.TrackKind.the-variants.{NotValid, TrueTrack, MagneticHeading, TrueHeading}
+use Rattle.kinds.specs.declared.Speed.{Speed}
+use Rattle.kinds.specs.declared.Speed.the-variants.{Knots, Over, None as no-speed}
+use Rattle.kinds.specs.declared.Climb.{Climb}
+use Rattle.kinds.specs.declared.Climb.the-variants.{Steps, Above, Below, None as no-climb}
+
+-- ---- altitude and speed
+
+pub altitude-code : (d : ℕ) → stepsOr (altitudeOf d) 0xFFF ≡ d
+unfolding altitudeOf
+altitude-code d = go (eqb d 0xFFF) refl
+  where
+    go : (b : Bool) → eqb d 0xFFF ≡ b → stepsOr (cond b no-altitude (Known (record { steps = d }))) 0xFFF ≡ d
+    go true e = sym (eqb-true d 0xFFF e)
+    go false e = refl
+
+pub altitude-back : (a : Altitude) → ltb (stepsOr a 0) 0xFFF ≡ true → (altitudeOf (stepsOr a 0xFFF) ≡ a) × (stepsOr a 0xFFF < 0x1000)
+unfolding altitudeOf
+altitude-back (Known a) g =
+    let h : a .steps < 0xFFF = ltb-true (a .steps) 0xFFF g in
+    (simp (ne-eqb (a .steps) 0xFFF (λ e. omega arith)), omega arith)
+altitude-back no-altitude g = (refl, omega arith)
+
+pub speed-code : (h : ℕ) → knotsOr (speedOf h) 0xFFE 0xFFF ≡ h
+unfolding speedOf
+speed-code h = go (eqb h 0xFFF) (eqb h 0xFFE) refl refl
+  where
+    go : (a b : Bool) → eqb h 0xFFF ≡ a → eqb h 0xFFE ≡ b → knotsOr (cond a no-speed (cond b Over (Knots h))) 0xFFE 0xFFF ≡ h
+    go true b p q = sym (eqb-true h 0xFFF p)
+    go false true p q = sym (eqb-true h 0xFFE q)
+    go false false p q = refl
+
+pub speed-back : (s : Speed) → ltb (knotsOr s 0 0) 0xFFE ≡ true → (speedOf (knotsOr s 0xFFE 0xFFF) ≡ s) × (knotsOr s 0xFFE 0xFFF < 0x1000)
+unfolding speedOf
+speed-back (Knots h) g =
+    let l : h < 0xFFE = ltb-true h 0xFFE g in
+    (simp (ne-eqb h 0xFFF (λ e. omega arith), ne-eqb h 0xFFE (λ e. omega arith)), omega arith)
+speed-back Over g = (refl, omega arith)
+speed-back no-speed g = (refl, omega arith)
+
+-- ---- climb
+
+abbrev pub climbCode : Climb → ℕ
+climbCode v = fieldOf 0x800 (climbOr v (pos 510) (negsuc 509) (negsuc 2047))
+
+pub climb-code : (v : ℕ) → v < 0x1000 → climbCode (climbOf v) ≡ v
+unfolding climbOf fieldOf
+climb-code v h = go (eqb v 0x800) (eqb v 0x1FE) (eqb v 0xE02) refl refl refl
+  where
+    go : (a b c : Bool) → eqb v 0x800 ≡ a → eqb v 0x1FE ≡ b → eqb v 0xE02 ≡ c → climbCode (cond a no-climb (cond b Above (cond c Below (Steps (signedIn 0x800 v))))) ≡ v
+    go true b c p q r = sym (eqb-true v 0x800 p)
+    go false true c p q r = sym (eqb-true v 0x1FE q)
+    go false false true p q r = sym (eqb-true v 0xE02 r)
+    go false false false p q r = field-signed 0x800 v (omega arith)
+
+-- steps within 509 are none of the three marks
+unmarked : (z : ℤ) → between (negsuc 508) (pos 509) z ≡ true → (fieldOf 0x800 z ≡ 0x800 → ⊥) × (fieldOf 0x800 z ≡ 0x1FE → ⊥) × (fieldOf 0x800 z ≡ 0xE02 → ⊥)
+unfolding fieldOf
+unmarked (pos n) g = let h = sized 508 509 510 (pos n) g (omega arith) (omega arith) in ((λ e. omega arith), (λ e. omega arith), (λ e. omega arith))
+unmarked (negsuc k) g = let h = leb-true k 508 (both _ true g .0) in ((λ e. omega arith), (λ e. omega arith), (λ e. omega arith))
+
+pub climb-back : (v : Climb) → between (negsuc 508) (pos 509) (climbOr v (pos 0) (pos 0) (pos 0)) ≡ true → (climbOf (climbCode v) ≡ v) × (climbCode v < 0x1000)
+unfolding climbOf fieldOf
+climb-back (Steps z) g =
+    let u = unmarked z g in
+    let h = sized 508 509 510 z g (omega arith) (omega arith) in (
+      simp (ne-eqb (fieldOf 0x800 z) 0x800 (u .0), ne-eqb (fieldOf 0x800 z) 0x1FE (u .1), ne-eqb (fieldOf 0x800 z) 0xE02 (u .2)) (ap Steps (signed-field 0x800 z (omega arith))),
+      omega (arith, field-fits 0x800 z (omega arith)),
+    )
+climb-back Above g = (refl, omega arith)
+climb-back Below g = (refl, omega arith)
+climb-back no-climb g = (refl, omega arith)
+
+-- ---- the track's kind, and bits
+
+pub kind-code : (n : ℕ) → n < 4 → kindNumber (kindOf n) ≡ n
+unfolding kindOf every
+kind-code n h = eqb→eq _ n (at (λ k. eqb (kindNumber (kindOf k)) k) 4 tt n h)
+
+pub kind-back : (k : TrackKind) → (kindOf (kindNumber k) ≡ k) × (kindNumber k < 4)
+unfolding kindOf
+kind-back NotValid = (refl, omega arith)
+kind-back TrueTrack = (refl, omega arith)
+kind-back MagneticHeading = (refl, omega arith)
+kind-back TrueHeading = (refl, omega arith)
+
+pub bit-code : (n : ℕ) → n < 2 → bit (eqb n 1) ≡ n
+unfolding every
+bit-code n h = eqb→eq _ n (at (λ k. eqb (bit (eqb k 1)) k) 2 tt n h)
+
+pub bit-back : (b : Bool) → (eqb (bit b) 1 ≡ b) × (bit b < 2)
+bit-back true = (refl, omega arith)
+bit-back false = (refl, omega arith)
+
+-- ---- position
+
+abbrev pub degreeCode : ℤ → ℕ
+degreeCode = fieldOf 0x800000
+
+pub position-code : (lat lon i : ℕ) → lat < 0x1000000 → lon < 0x1000000 → (degreeCode (placeOf (positionOf lat lon i) .latitude) ≡ lat) × (degreeCode (placeOf (positionOf lat lon i) .longitude) ≡ lon)
+unfolding positionOf fieldOf
+position-code lat lon i h k = go (noneMark lat lon i) refl
+  where
+    made : Bool → Position
+    made b = cond b no-position (At (signedIn 0x800000 lat) (signedIn 0x800000 lon))
+
+    go : (b : Bool) → noneMark lat lon i ≡ b → (degreeCode (placeOf (made b) .latitude) ≡ lat) × (degreeCode (placeOf (made b) .longitude) ≡ lon)
+    go true e =
+        let z = both (eqb lat 0) (eqb lon 0) (both (eqb lat 0 && eqb lon 0) (eqb i 0) e .0) in
+        (sym (eqb-true lat 0 (z .0)), sym (eqb-true lon 0 (z .1)))
+    go false e = (field-signed 0x800000 lat (omega arith), field-signed 0x800000 lon (omega arith))
+
+pub position-back : (p : Position) (i : ℕ) → goodPosition p i ≡ true → (positionOf (degreeCode (placeOf p .latitude)) (degreeCode (placeOf p .longitude)) i ≡ p) × (degreeCode (placeOf p .latitude) < 0x1000000) × (degreeCode (placeOf p .longitude) < 0x1000000)
+unfolding goodPosition positionOf
+position-back p i g =
+    let lat = placeOf p .latitude in
+    let lon = placeOf p .longitude in
+    let a = both (between (negsuc 4194303) (pos 4194304) lat && between (negsuc 8388607) (pos 8388607) lon) _ g in
+    let b = both (between (negsuc 4194303) (pos 4194304) lat) _ (a .0) in
+    let h = sized 4194303 4194304 0x800000 lat (b .0) (omega arith) (omega arith) in
+    let k = sized 8388607 8388607 0x800000 lon (b .1) (omega arith) (omega arith) in (
+      go p h k (noneMark (degreeCode lat) (degreeCode lon) i) (a .1),
+      omega (arith, field-fits 0x800000 lat (omega arith)),
+      omega (arith, field-fits 0x800000 lon (omega arith)),
+    )
+  where
+    go : (p : Position) →
+        mag (placeOf p .latitude) < 0x800000 →
+        mag (placeOf p .longitude) < 0x800000 →
+        (b : Bool) →
+        Bool·beq (isNone p) b ≡ true →
+        cond b no-position (At (signedIn 0x800000 (degreeCode (placeOf p .latitude))) (signedIn 0x800000 (degreeCode (placeOf p .longitude)))) ≡ p
+    go (At lat lon) h k true e = cc
+    go (At lat lon) h k false e = λ j. At (signed-field 0x800000 lat h j) (signed-field 0x800000 lon k j)
+    go no-position h k true e = refl
+    go no-position h k false e = cc

@@ -1,0 +1,461 @@
+// Ownship and traffic reports (001 §3.4, §3.5): one format, with two ids.
+ghost use mathlib.Core.Path.{_≡_};
+ghost use Prim.Native.Nat.{_+_, _-_, _<_, _≤_};
+ghost use lib.ListN.{length};
+ghost use Rattle.fields.specs.Writing.{Wrote};
+ghost use Rattle.numbers.specs.Signed.{signedIn, fieldOf};
+ghost use Rattle.report.specs.Marks.{stepsOr, knotsOr, climbOr, placeOf, isNone, noneMark, kindNumber, bit, altitudeOf, speedOf, climbOf, positionOf, kindOf};
+ghost use Rattle.report.specs.Bytes.{three, threeAt, twelveHigh, highAt, twelveLow, lowAt, callSignIn, codesIn, codesOf, reportIn, packed, reportBytes};
+ghost use Rattle.report.specs.Reading.{between, goodPosition, withinBits, goodReport, carriedBy, readReport};
+use fields::Written;
+use kinds::Altitude;
+use kinds::Bytes8;
+use kinds::Climb;
+use kinds::Message;
+use kinds::Ownship;
+use kinds::Position;
+use kinds::Reading;
+use kinds::Report;
+use kinds::Speed;
+use kinds::TrackKind;
+use kinds::Traffic;
+use units::PressureSteps;
+
+// A report of either id: the id says whose.
+pub fn read_report(id: u8, message: &[u8]) -> Reading
+    ensures { λ r. ⌜ r ≡ readReport id (now (message .entry)) ⌝ }
+{
+    if message.len() != Traffic::LENGTH {
+        return Reading::Refused(7);
+    }
+    let report = report_in(message);
+    if is_good_report(report) {
+        Reading::Message(carried(id, report))
+    } else {
+        Reading::Refused(8)
+    }
+}
+
+fn carried(id: u8, report: Report) -> Message
+    ensures { λ r. ⌜ r ≡ carriedBy id report ⌝ }
+{
+    if id == Ownship::ID {
+        Message::Ownship(Ownship { report })
+    } else {
+        Message::Traffic(Traffic { report })
+    }
+}
+
+// The report with this id.
+pub fn write_report(id: u8, report: Report, out: &mut [u8]) -> Written
+    ensures { λ r. ⌜ Wrote (goodReport report) (reportBytes id report) (now (out .entry)) r (now (out .exit)) ⌝ }
+{
+    if is_good_report(report) {
+        let codes = codes_of(report);
+        let bytes = packed_report(id, report, codes);
+        fields::put(&bytes, out)
+    } else {
+        Written::Refused(8)
+    }
+}
+
+fn is_good_report(report: Report) -> bool
+    ensures { λ r. ⌜ r ≡ goodReport report ⌝ }
+{
+    let position = report.position;
+    let altitude = report.altitude;
+    let speed = report.speed;
+    let climb = report.climb;
+    is_good_position(position, report.integrity)
+        & (steps_or(altitude, 0) < 0xFFF)
+        & (knots_or(speed, 0, 0) < 0xFFE)
+        & is_between(climb_or(climb, 0, 0, 0), -509, 509)
+        & is_within_bits(report)
+}
+
+fn is_within_bits(report: Report) -> bool
+    ensures { λ r. ⌜ r ≡ withinBits report ⌝ }
+{
+    (report.integrity < 12)
+        & (report.accuracy < 12)
+        & (report.alert < 16)
+        & (report.address_type < 16)
+        & (report.address < 0x1000000)
+        & (report.priority < 16)
+        & (report.spare < 16)
+}
+
+// None exactly if latitude, longitude and integrity are all 0.
+fn is_good_position(position: Position, integrity: u8) -> bool
+    ensures { λ r. ⌜ r ≡ goodPosition position integrity ⌝ }
+{
+    let at = place_of(position);
+    let none = none_mark(
+        field_of(at.latitude, 0x800000),
+        field_of(at.longitude, 0x800000),
+        integrity,
+    );
+    is_between(at.latitude, -4194304, 4194304)
+        & is_between(at.longitude, -8388608, 8388607)
+        & (is_none(position) == none)
+}
+
+fn is_between(n: i32, low: i32, high: i32) -> bool
+    ensures { λ r. ⌜ r ≡ between low high n ⌝ }
+{
+    (low <= n) & (n <= high)
+}
+
+// The numbers that stand in the bytes for the fields with a sign, a mark or a name.
+struct Codes {
+    latitude: u32,
+    longitude: u32,
+    altitude: u16,
+    kind: u8,
+    extrapolated: u8,
+    airborne: u8,
+    speed: u16,
+    climb: u32,
+}
+
+fn codes_in(message: &[u8]) -> Codes
+    requires { ⌜ length (now message) ≡ 28 ⌝ }
+    ensures { λ r. ⌜ r ≡ codesIn (now (message .entry)) ⌝ }
+{
+    let indicators = message[12];
+    Codes {
+        latitude: three_at(message, 5),
+        longitude: three_at(message, 8),
+        altitude: high_at(message, 11),
+        kind: indicators % 4,
+        extrapolated: indicators / 4 % 2,
+        airborne: indicators / 8 % 2,
+        speed: high_at(message, 14),
+        climb: low_at(message, 15),
+    }
+}
+
+fn codes_of(report: Report) -> Codes
+    ensures { λ r. ⌜ r ≡ codesOf report ⌝ }
+{
+    let position = report.position;
+    let altitude = report.altitude;
+    let kind = report.track_kind;
+    let speed = report.speed;
+    let climb = report.climb;
+    let at = place_of(position);
+    Codes {
+        latitude: field_of(at.latitude, 0x800000),
+        longitude: field_of(at.longitude, 0x800000),
+        altitude: steps_or(altitude, 0xFFF),
+        kind: kind_number(kind),
+        extrapolated: bit_of(report.extrapolated),
+        airborne: bit_of(report.airborne),
+        speed: knots_or(speed, 0xFFE, 0xFFF),
+        climb: field_of(climb_or(climb, 510, -510, -2048), 0x800),
+    }
+}
+
+fn report_in(message: &[u8]) -> Report
+    requires { ⌜ length (now message) ≡ 28 ⌝ }
+    ensures { λ r. ⌜ r ≡ reportIn (now (message .entry)) ⌝ }
+{
+    let codes = codes_in(message);
+    let target = message[1];
+    let quality = message[13];
+    let last = message[27];
+    Report {
+        alert: target / 16,
+        address_type: target % 16,
+        address: three_at(message, 2),
+        position: position_of(codes.latitude, codes.longitude, quality / 16),
+        altitude: altitude_of(codes.altitude),
+        track_kind: kind_of(codes.kind),
+        extrapolated: codes.extrapolated == 1,
+        airborne: codes.airborne == 1,
+        integrity: quality / 16,
+        accuracy: quality % 16,
+        speed: speed_of(codes.speed),
+        climb: climb_of(codes.climb),
+        track: message[17],
+        emitter: message[18],
+        call_sign: call_sign_in(message),
+        priority: last / 16,
+        spare: last % 16,
+    }
+}
+
+fn packed_report(id: u8, report: Report, c: Codes) -> [u8; 28]
+    ensures { λ r. ⌜ r ≡ packed id report c ⌝ }
+{
+    let sign = report.call_sign;
+    [
+        id,
+        report.alert % 16 * 16 + report.address_type % 16,
+        (report.address / 65536 % 256) as u8,
+        (report.address / 256 % 256) as u8,
+        (report.address % 256) as u8,
+        (c.latitude / 65536 % 256) as u8,
+        (c.latitude / 256 % 256) as u8,
+        (c.latitude % 256) as u8,
+        (c.longitude / 65536 % 256) as u8,
+        (c.longitude / 256 % 256) as u8,
+        (c.longitude % 256) as u8,
+        (c.altitude / 16 % 256) as u8,
+        (c.altitude % 16 * 16) as u8 + (c.airborne % 2 * 8 + c.extrapolated % 2 * 4 + c.kind % 4),
+        report.integrity % 16 * 16 + report.accuracy % 16,
+        (c.speed / 16 % 256) as u8,
+        (c.speed % 16 * 16) as u8 + (c.climb / 256 % 16) as u8,
+        (c.climb % 256) as u8,
+        report.track,
+        report.emitter,
+        sign.0,
+        sign.1,
+        sign.2,
+        sign.3,
+        sign.4,
+        sign.5,
+        sign.6,
+        sign.7,
+        report.priority % 16 * 16 + report.spare % 16,
+    ]
+}
+
+fn call_sign_in(message: &[u8]) -> Bytes8
+    requires { ⌜ length (now message) ≡ 28 ⌝ }
+    ensures { λ r. ⌜ r ≡ callSignIn (now (message .entry)) ⌝ }
+{
+    Bytes8(
+        message[19],
+        message[20],
+        message[21],
+        message[22],
+        message[23],
+        message[24],
+        message[25],
+        message[26],
+    )
+}
+
+// Three bytes, high first.
+fn three_at(message: &[u8], at: usize) -> u32
+    requires { ⌜ at + 2 < length (now message) ⌝ }
+    ensures { λ r. ⌜ r ≡ threeAt (now (message .entry)) at ⌝ }
+{
+    three_bytes(message[at], message[at + 1], message[at + 2])
+}
+
+fn three_bytes(a: u8, b: u8, c: u8) -> u32
+    ensures { λ r. ⌜ r ≡ three a b c ⌝ }
+{
+    (a as u32) * 65536 + (b as u32) * 256 + (c as u32)
+}
+
+// Twelve bits, high first: a byte and the next one's high half, or a byte's low half and the next one.
+fn high_at(message: &[u8], at: usize) -> u16
+    requires { ⌜ at + 1 < length (now message) ⌝ }
+    ensures { λ r. ⌜ r ≡ highAt (now (message .entry)) at ⌝ }
+{
+    twelve_high(message[at], message[at + 1])
+}
+
+fn low_at(message: &[u8], at: usize) -> u32
+    requires { ⌜ at + 1 < length (now message) ⌝ }
+    ensures { λ r. ⌜ r ≡ lowAt (now (message .entry)) at ⌝ }
+{
+    twelve_low(message[at], message[at + 1])
+}
+
+fn twelve_high(a: u8, b: u8) -> u16
+    ensures { λ r. ⌜ r ≡ twelveHigh a b ⌝ }
+{
+    (a as u16) * 16 + (b as u16) / 16
+}
+
+fn twelve_low(a: u8, b: u8) -> u32
+    ensures { λ r. ⌜ r ≡ twelveLow a b ⌝ }
+{
+    (a as u32) % 16 * 256 + (b as u32)
+}
+
+fn position_of(latitude: u32, longitude: u32, integrity: u8) -> Position
+    ensures { λ r. ⌜ r ≡ positionOf latitude longitude integrity ⌝ }
+{
+    if none_mark(latitude, longitude, integrity) {
+        return Position::None;
+    }
+    Position::At {
+        latitude: signed_in(latitude, 0x800000),
+        longitude: signed_in(longitude, 0x800000),
+    }
+}
+
+fn none_mark(latitude: u32, longitude: u32, integrity: u8) -> bool
+    ensures { λ r. ⌜ r ≡ noneMark latitude longitude integrity ⌝ }
+{
+    (latitude == 0) & (longitude == 0) & (integrity == 0)
+}
+
+struct Place {
+    latitude: i32,
+    longitude: i32,
+}
+
+// 0, 0 where there is none.
+fn place_of(position: Position) -> Place
+    ensures { λ r. ⌜ r ≡ placeOf position ⌝ }
+{
+    match position {
+        Position::At {
+            latitude,
+            longitude,
+        } => Place {
+            latitude,
+            longitude,
+        },
+        Position::None => Place {
+            latitude: 0,
+            longitude: 0,
+        },
+    }
+}
+
+fn is_none(position: Position) -> bool
+    ensures { λ r. ⌜ r ≡ isNone position ⌝ }
+{
+    match position {
+        Position::At {
+            latitude: _,
+            longitude: _,
+        } => false,
+        Position::None => true,
+    }
+}
+
+fn altitude_of(code: u16) -> Altitude
+    ensures { λ r. ⌜ r ≡ altitudeOf code ⌝ }
+{
+    if code == 0xFFF {
+        return Altitude::None;
+    }
+    Altitude::Known(PressureSteps { steps: code })
+}
+
+fn steps_or(altitude: Altitude, none: u16) -> u16
+    ensures { λ r. ⌜ r ≡ stepsOr altitude none ⌝ }
+{
+    match altitude {
+        Altitude::Known(p) => p.steps,
+        Altitude::None => none,
+    }
+}
+
+fn kind_of(code: u8) -> TrackKind
+    ensures { λ r. ⌜ r ≡ kindOf code ⌝ }
+{
+    if code == 0 {
+        return TrackKind::NotValid;
+    }
+    if code == 1 {
+        return TrackKind::TrueTrack;
+    }
+    if code == 2 {
+        return TrackKind::MagneticHeading;
+    }
+    TrackKind::TrueHeading
+}
+
+fn kind_number(kind: TrackKind) -> u8
+    ensures { λ r. ⌜ r ≡ kindNumber kind ⌝ }
+{
+    match kind {
+        TrackKind::NotValid => 0,
+        TrackKind::TrueTrack => 1,
+        TrackKind::MagneticHeading => 2,
+        TrackKind::TrueHeading => 3,
+    }
+}
+
+fn bit_of(b: bool) -> u8
+    ensures { λ r. ⌜ r ≡ bit b ⌝ }
+{
+    if b { 1 } else { 0 }
+}
+
+fn speed_of(code: u16) -> Speed
+    ensures { λ r. ⌜ r ≡ speedOf code ⌝ }
+{
+    if code == 0xFFF {
+        return Speed::None;
+    }
+    if code == 0xFFE {
+        return Speed::Over;
+    }
+    Speed::Knots(code)
+}
+
+fn knots_or(speed: Speed, over: u16, none: u16) -> u16
+    ensures { λ r. ⌜ r ≡ knotsOr speed over none ⌝ }
+{
+    match speed {
+        Speed::Knots(n) => n,
+        Speed::Over => over,
+        Speed::None => none,
+    }
+}
+
+fn climb_of(code: u32) -> Climb
+    ensures { λ r. ⌜ r ≡ climbOf code ⌝ }
+{
+    if code == 0x800 {
+        return Climb::None;
+    }
+    if code == 0x1FE {
+        return Climb::Above;
+    }
+    if code == 0xE02 {
+        return Climb::Below;
+    }
+    Climb::Steps(signed_in(code, 0x800))
+}
+
+fn climb_or(climb: Climb, above: i32, below: i32, none: i32) -> i32
+    ensures { λ r. ⌜ r ≡ climbOr climb above below none ⌝ }
+{
+    match climb {
+        Climb::Steps(n) => n,
+        Climb::Above => above,
+        Climb::Below => below,
+        Climb::None => none,
+    }
+}
+
+// A field as a signed number: `half` is the weight of its sign bit.
+fn signed_in(field: u32, half: u32) -> i32
+    requires { ⌜ 0 < half ⌝ }
+    requires { ⌜ half ≤ 0x800000 ⌝ }
+    ensures { λ r. ⌜ r ≡ signedIn half field ⌝ }
+{
+    if field < half {
+        return field as i32;
+    }
+    !(less(2 * half - 1, field) as i32)
+}
+
+fn field_of(n: i32, half: u32) -> u32
+    requires { ⌜ 0 < half ⌝ }
+    requires { ⌜ half ≤ 0x800000 ⌝ }
+    ensures { λ r. ⌜ r ≡ fieldOf half n ⌝ }
+{
+    if n < 0 {
+        return less(2 * half - 1, (!n) as u32);
+    }
+    n as u32
+}
+
+// 0 where b is more than a.
+fn less(a: u32, b: u32) -> u32
+    ensures { λ r. ⌜ r ≡ a - b ⌝ }
+{
+    if a < b { 0 } else { a - b }
+}
