@@ -1,0 +1,40 @@
+-- Demand 2 of 01 for messages, over all nine kinds at once.
+-- Assumes nothing.
+use mathlib.Core.Path.{_≡_}
+use Prim.Native.Nat.{ℕ, _<_}
+use mathlib.Core.Bool.{true}
+use mathlib.Core.List.{List}
+use lib.ListN.{drop}
+use lib.Signed.{mag}
+use Rattle.numbers.specs.Bytes.{AreBytes}
+use Rattle.kinds.specs.declared.Message.{Message}
+use Rattle.kinds.specs.declared.Message.the-variants.{Heartbeat, Initialization, Uplink, Height, Ownship, Geometric, Traffic, Basic, Long}
+use Rattle.kinds.specs.declared.Reading.{Reading}
+use Rattle.kinds.specs.declared.Reading.the-variants.{Message as Accepted}
+use Rattle.altitudes.specs.Claims.{TypedHeight}
+use Rattle.messages.specs.Message.{messageBytes, goodMessage, goodPayload, readMessage}
+
+-- the two signed fields whose range is their 16-bit type are of that type
+abbrev pub Typed : Message → Type 0
+Typed (Heartbeat x) = Unit {0}
+Typed (Initialization x) = Unit {0}
+Typed (Uplink x) = Unit {0}
+Typed (Height x) = TypedHeight (x .height)
+Typed (Ownship x) = Unit {0}
+Typed (Geometric x) = mag (x .altitude .steps) < 0x8000
+Typed (Traffic x) = Unit {0}
+Typed (Basic x) = Unit {0}
+Typed (Long x) = Unit {0}
+
+-- a typed message that writing accepts, written and read, is that message
+abbrev pub WrittenRead : Type 0
+WrittenRead =
+    (x : Message) (payload : List ℕ) → Typed x → goodPayload x payload ≡ true → goodMessage x ≡ true
+    → readMessage (messageBytes x payload) ≡ Accepted x
+
+-- bytes that reading accepts, read and written, are the same bytes: writing takes the message. An uplink's payload is the message
+-- from its fifth byte on.
+abbrev pub ReadWritten : Type 0
+ReadWritten =
+    (m : List ℕ) (x : Message) → AreBytes m → readMessage m ≡ Accepted x
+    → (goodMessage x ≡ true) × (goodPayload x (drop 4 m) ≡ true) × (messageBytes x (drop 4 m) ≡ m)

@@ -1,0 +1,104 @@
+-- The nine kinds of message together (001 §3, Table 2; 01 'Messages and their lengths').
+-- Assumes nothing.
+use mathlib.Core.Path.{_≡_}
+use Prim.Native.Nat.{ℕ}
+use mathlib.Core.Bool.{Bool, true, cond}
+use mathlib.Core.List.{List}
+use lib.Dec.{eqb}
+use lib.ListN.{length, getD}
+use Rattle.numbers.specs.Lent.{written}
+use Rattle.fields.specs.declared.Written.{Written}
+use Rattle.fields.specs.declared.Written.the-variants.{Refused as NotWritten}
+use Rattle.fields.specs.Writing.{writing, output}
+use Rattle.kinds.specs.declared.Message.{Message}
+use Rattle.kinds.specs.declared.Message.the-variants.{Heartbeat, Initialization, Uplink, Height, Ownship, Geometric, Traffic, Basic, Long}
+use Rattle.kinds.specs.declared.Reading.{Reading}
+use Rattle.kinds.specs.declared.Reading.the-variants.{Message as Accepted, Refused}
+use Rattle.status.specs.Heartbeat.{goodHeartbeat, heartbeatBytes, readHeartbeat}
+use Rattle.status.specs.Initialization.{goodInitialization, initializationBytes, readInitialization}
+use Rattle.altitudes.specs.Height.{goodTerrain, terrainBytes, readTerrain}
+use Rattle.altitudes.specs.Geometric.{goodGeometric, geometricBytes, readGeometric}
+use Rattle.passing.specs.Uplink.{goodUplink, uplinkBytes, readUplink}
+use Rattle.passing.specs.PassThrough.{goodBasicPassThrough, basicPassThroughBytes, readBasicPassThrough, goodLongPassThrough, longPassThroughBytes, readLongPassThrough}
+use Rattle.report.specs.Bytes.{reportBytes}
+use Rattle.report.specs.Reading.{goodReport, readReport}
+use Rattle.messages.specs.declared.Kind.{Kind}
+use Rattle.messages.specs.declared.Kind.the-variants as kind
+
+-- each kind's id
+abbrev pub kindOf : ℕ → Kind
+kindOf id =
+    cond (eqb id 0) kind.Heartbeat
+    (cond (eqb id 2) kind.Initialization
+    (cond (eqb id 7) kind.Uplink
+    (cond (eqb id 9) kind.Height
+    (cond (eqb id 10) kind.Ownship
+    (cond (eqb id 11) kind.Geometric
+    (cond (eqb id 20) kind.Traffic
+    (cond (eqb id 30) kind.Basic
+    (cond (eqb id 31) kind.Long kind.Unknown))))))))
+
+abbrev pub readAs : Kind → List ℕ → Reading
+readAs kind.Heartbeat m = readHeartbeat m
+readAs kind.Initialization m = readInitialization m
+readAs kind.Uplink m = readUplink m
+readAs kind.Height m = readTerrain m
+readAs kind.Ownship m = readReport 10 m
+readAs kind.Geometric m = readGeometric m
+readAs kind.Traffic m = readReport 20 m
+readAs kind.Basic m = readBasicPassThrough m
+readAs kind.Long m = readLongPassThrough m
+readAs kind.Unknown m = Refused 6
+
+-- 6 for an empty message or an id that is not in the list; then 7 and 8 as of the kind
+unfoldable pub readMessage : List ℕ → Reading
+readMessage m = cond (eqb (length m) 0) (Refused 6) (readAs (kindOf (getD m 0 0)) m)
+
+-- 01's number for each case of a reading
+abbrev pub number : Reading → ℕ
+number (Accepted x) = 0
+number (Refused k) = k
+
+-- the bytes of a message; an uplink's payload is given beside it
+abbrev pub messageBytes : Message → List ℕ → List ℕ
+messageBytes (Heartbeat x) payload = heartbeatBytes x
+messageBytes (Initialization x) payload = initializationBytes x
+messageBytes (Uplink x) payload = uplinkBytes x payload
+messageBytes (Height x) payload = terrainBytes x
+messageBytes (Ownship x) payload = reportBytes 10 (x .report)
+messageBytes (Geometric x) payload = geometricBytes x
+messageBytes (Traffic x) payload = reportBytes 20 (x .report)
+messageBytes (Basic x) payload = basicPassThroughBytes x
+messageBytes (Long x) payload = longPassThroughBytes x
+
+-- every field is within its bits and its range, and no mark is a plain number
+abbrev pub goodMessage : Message → Bool
+goodMessage (Heartbeat x) = goodHeartbeat x
+goodMessage (Initialization x) = goodInitialization x
+goodMessage (Uplink x) = goodUplink x
+goodMessage (Height x) = goodTerrain x
+goodMessage (Ownship x) = goodReport (x .report)
+goodMessage (Geometric x) = goodGeometric x
+goodMessage (Traffic x) = goodReport (x .report)
+goodMessage (Basic x) = goodBasicPassThrough x
+goodMessage (Long x) = goodLongPassThrough x
+
+-- only an uplink has a payload beside it, of 432 bytes
+abbrev pub goodPayload : Message → List ℕ → Bool
+goodPayload (Heartbeat x) payload = true
+goodPayload (Initialization x) payload = true
+goodPayload (Uplink x) payload = eqb (length payload) 432
+goodPayload (Height x) payload = true
+goodPayload (Ownship x) payload = true
+goodPayload (Geometric x) payload = true
+goodPayload (Traffic x) payload = true
+goodPayload (Basic x) payload = true
+goodPayload (Long x) payload = true
+
+-- 7 for an uplink's payload, then 8, then 9
+unfoldable pub writingMessage : Message → List ℕ → ℕ → Written
+writingMessage x payload room = cond (goodPayload x payload) (writing (goodMessage x) (messageBytes x payload) room) (NotWritten 7)
+
+pub record WroteMessage (x : Message) (payload out : List ℕ) (answer : Written) (left : List ℕ) : Type 0 where
+  pub answers : answer ≡ writingMessage x payload (length out)
+  pub leaves : left ≡ written (output answer (messageBytes x payload)) out

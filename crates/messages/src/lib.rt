@@ -1,0 +1,96 @@
+// Reading and writing a message of whatever kind (001 §3; 01 'Messages and their lengths').
+ghost use mathlib.Core.Path.{_≡_};
+ghost use Rattle.messages.specs.Message.{kindOf, readAs, readMessage, WroteMessage};
+use fields::Written;
+use kinds::BasicPassThrough;
+use kinds::GeometricAltitude;
+use kinds::Heartbeat;
+use kinds::HeightAboveTerrain;
+use kinds::Initialization;
+use kinds::LongPassThrough;
+use kinds::Message;
+use kinds::Ownship;
+use kinds::Reading;
+use kinds::Traffic;
+use kinds::Uplink;
+
+// What an id says.
+pub enum Kind {
+    Heartbeat,
+    Initialization,
+    Uplink,
+    Height,
+    Ownship,
+    Geometric,
+    Traffic,
+    Basic,
+    Long,
+    Unknown,
+}
+
+// The typed value of a message. An uplink's payload is `passing::payload` of it.
+pub fn read(message: &[u8]) -> Reading
+    ensures { λ r. ⌜ r ≡ readMessage (now (message .entry)) ⌝ }
+{
+    if message.len() == 0 {
+        return Reading::Refused(6);
+    }
+    read_as(kind_of(message[0]), message)
+}
+
+fn kind_of(id: u8) -> Kind
+    ensures { λ r. ⌜ r ≡ kindOf id ⌝ }
+{
+    match id {
+        Heartbeat::ID => Kind::Heartbeat,
+        Initialization::ID => Kind::Initialization,
+        Uplink::ID => Kind::Uplink,
+        HeightAboveTerrain::ID => Kind::Height,
+        Ownship::ID => Kind::Ownship,
+        GeometricAltitude::ID => Kind::Geometric,
+        Traffic::ID => Kind::Traffic,
+        BasicPassThrough::ID => Kind::Basic,
+        LongPassThrough::ID => Kind::Long,
+        _ => Kind::Unknown,
+    }
+}
+
+fn read_as(kind: Kind, message: &[u8]) -> Reading
+    ensures { λ r. ⌜ r ≡ readAs kind (now (message .entry)) ⌝ }
+{
+    match kind {
+        Kind::Heartbeat => status::read_heartbeat(message),
+        Kind::Initialization => status::read_initialization(message),
+        Kind::Uplink => passing::read_uplink(message),
+        Kind::Height => altitudes::read_height(message),
+        Kind::Ownship => report::read_report(Ownship::ID, message),
+        Kind::Geometric => altitudes::read_geometric(message),
+        Kind::Traffic => report::read_report(Traffic::ID, message),
+        Kind::Basic => passing::read_basic_pass_through(message),
+        Kind::Long => passing::read_long_pass_through(message),
+        Kind::Unknown => Reading::Refused(6),
+    }
+}
+
+// The bytes of a typed value. An uplink's payload is given beside it; of the other kinds it is not looked at.
+pub fn write(message: Message, payload: &[u8], out: &mut [u8]) -> Written
+    ensures { λ r. ⌜ WroteMessage message (now (payload .entry)) (now (out .entry)) r (now (out .exit)) ⌝ }
+{
+    match message {
+        Message::Heartbeat(x) => status::write_heartbeat(x, out),
+        Message::Initialization(x) => status::write_initialization(x, out),
+        Message::Uplink(x) => passing::write_uplink(x, payload, out),
+        Message::Height(x) => altitudes::write_height(x, out),
+        Message::Ownship(x) => {
+            let r = x.report;
+            report::write_report(Ownship::ID, r, out)
+        }
+        Message::Geometric(x) => altitudes::write_geometric(x, out),
+        Message::Traffic(x) => {
+            let r = x.report;
+            report::write_report(Traffic::ID, r, out)
+        }
+        Message::Basic(x) => passing::write_basic_pass_through(x, out),
+        Message::Long(x) => passing::write_long_pass_through(x, out),
+    }
+}
