@@ -32,7 +32,7 @@ use Rattle.report.proofs.Laws as reports
 use Rattle.messages.specs.declared.Kind.{Kind}
 use Rattle.messages.specs.declared.Kind.the-variants as kind
 use Rattle.messages.specs.Message.{kindOf, readAs, readMessage, messageBytes, goodMessage, goodPayload}
-use Rattle.messages.specs.Claims.{WrittenRead, ReadWritten}
+use Rattle.messages.specs.Claims.{WrittenRead, ReadWritten, ReadGood}
 
 -- what the kind says of the id
 abbrev Named : Kind → ℕ → Type 0
@@ -86,7 +86,7 @@ written-read (Long b) payload t p g =
     read-back 38 longPassThroughIn goodLongPassThrough (λ x. Accepted (Long x)) Refused (longPassThroughBytes b) b refl (pass-throughs.long-written-read b g) g
 
 module _ (m : List ℕ) (x : Message) where
-  -- what ReadWritten says of one message
+  -- what ReadWritten and ReadGood say of one message
   abbrev Same : Message → Type 0
   Same y = (goodMessage y ≡ true) × (goodPayload y (drop 4 m) ≡ true) × (messageBytes y (drop 4 m) ≡ m)
 
@@ -119,10 +119,16 @@ module _ (m : List ℕ) (x : Message) where
     of-kind kind.Long n = held 38 longPassThroughIn goodLongPassThrough Long (λ l g. (g, refl, pass-throughs.long-read-written m l bytes n))
     of-kind kind.Unknown n = λ h. absurd (apart h)
 
-pub read-written : ReadWritten
+same : (m : List ℕ) (x : Message) → AreBytes m → readMessage m ≡ Accepted x → Same m x x
 unfolding readMessage
-read-written m x bytes = go (eqb (length m) 0)
+same m x bytes = go (eqb (length m) 0)
   where
     go : (t : Bool) → cond t (Refused 6) (readAs (kindOf (getD m 0 0)) m) ≡ Accepted x → Same m x x
     go true h = absurd (apart h)
     go false h = of-kind m x bytes (kindOf (getD m 0 0)) (named (getD m 0 0)) h
+
+pub read-written : ReadWritten
+read-written m x bytes h = same m x bytes h .2
+
+pub read-good : ReadGood
+read-good m x bytes h = let s = same m x bytes h in (s .0, s .1)

@@ -32,9 +32,12 @@ WrittenRead =
     (x : Message) (payload : List ℕ) → Typed x → goodPayload x payload ≡ true → goodMessage x ≡ true
     → readMessage (messageBytes x payload) ≡ Accepted x
 
--- bytes that reading accepts, read and written, are the same bytes: writing takes the message. An uplink's payload is the message
--- from its fifth byte on.
+-- bytes that reading accepts, read and written, are the same bytes; an uplink's payload is the message from its fifth byte on
 abbrev pub ReadWritten : Type 0
-ReadWritten =
+ReadWritten = (m : List ℕ) (x : Message) → AreBytes m → readMessage m ≡ Accepted x → messageBytes x (drop 4 m) ≡ m
+
+-- what is read can be written
+abbrev pub ReadGood : Type 0
+ReadGood =
     (m : List ℕ) (x : Message) → AreBytes m → readMessage m ≡ Accepted x
-    → (goodMessage x ≡ true) × (goodPayload x (drop 4 m) ≡ true) × (messageBytes x (drop 4 m) ≡ m)
+    → (goodMessage x ≡ true) × (goodPayload x (drop 4 m) ≡ true)

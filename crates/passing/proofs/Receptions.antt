@@ -12,13 +12,13 @@ use Rattle.numbers.specs.Bytes.{AreBytes}
 use Rattle.numbers.proofs.Bytes.{byte-at, spread, upTo}
 use Rattle.kinds.specs.declared.Reception.{Reception}
 use Rattle.kinds.specs.declared.Reception.the-variants.{Steps, None}
-use Rattle.passing.specs.Reception.{receptionOf, receptionIn, goodReception, receptionNumber, received}
+use Rattle.passing.specs.Reception.{receptionOf, receptionIn, lastStep, goodReception, receptionNumber, received}
 
 -- a good time is read back
 pub kept : (id : ℕ) (r : Reception) (payload : List ℕ) → goodReception r ≡ true → receptionIn (received id r payload) ≡ r
 unfolding receptionOf
 kept id (Steps n) payload g =
-    let h = leb-true n 12499999 g in
+    let h = leb-true n lastStep g in
     let e : n / 65536 % 256 * 65536 + n / 256 % 256 * 256 + n % 256 ≡ n = omega arith in
     simp (e, ne-eqb n 0xFFFFFF (λ p. omega arith))
 kept id None payload g = refl

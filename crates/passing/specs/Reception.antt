@@ -17,9 +17,13 @@ receptionOf low middle high =
 abbrev pub receptionIn : List ℕ → Reception
 receptionIn m = receptionOf (getD m 1 0) (getD m 2 0) (getD m 3 0)
 
+-- the last step of a second
+abbrev pub lastStep : ℕ
+lastStep = 12499999
+
 -- within the second, or none
 abbrev pub goodReception : Reception → Bool
-goodReception (Steps n) = leb n 12499999
+goodReception (Steps n) = leb n lastStep
 goodReception None = true
 
 abbrev pub receptionNumber : Reception → ℕ

@@ -11,7 +11,7 @@ use Rattle.report.specs.Marks.{positionOf, altitudeOf, kindOf, speedOf, 
 use Rattle.report.specs.Bytes.{codesIn, codesOf, reportIn, packed, reportBytes}
 use Rattle.fields.specs.Reading.{reading}
 use Rattle.report.specs.Reading.{goodReport, goodPosition, carriedBy}
-use Rattle.report.specs.Claims.{ReportWrittenRead, ReportReadWritten, Salem}
+use Rattle.report.specs.Claims.{ReportWrittenRead, ReportReadWritten, ReportExamples}
 use Rattle.report.proofs.Narrow.{both}
 use Rattle.report.proofs.Marked.{altitude-code, altitude-back, speed-code, speed-back, climb-code, climb-back, kind-code, kind-back, bit-code, bit-back, position-code, position-back}
 use Rattle.report.proofs.Packing.{Fit, from-three, upper, lower, codes-back, fit-in, bytes-back}
@@ -90,6 +90,6 @@ written-read id r g =
       spare = lower (r .priority) (r .spare) (ltb-true _ _ (spare .1)) i;
     }
 
-pub salem-holds : Salem
+pub examples-hold : ReportExamples
 unfolding reading carriedBy reportIn goodReport goodPosition positionOf altitudeOf kindOf speedOf climbOf signedIn fieldOf
-salem-holds = (refl, refl, refl, refl, refl, refl)
+examples-hold = (refl, refl, refl, refl, refl, refl)

@@ -77,15 +77,6 @@ codes-back id r c f = λ i. record {
 
 -- ---- bytes to numbers and back
 
-three-fits : (a b c : ℕ) → a < 256 → b < 256 → c < 256 → three a b c < 0x1000000
-three-fits a b c p q r = omega arith
-
-high-fits : (a b : ℕ) → a < 256 → b < 256 → twelveHigh a b < 0x1000
-high-fits a b p q = omega arith
-
-low-fits : (a b : ℕ) → a < 256 → b < 256 → twelveLow a b < 0x1000
-low-fits a b p q = omega arith
-
 abbrev indicators-in : ℕ → ℕ
 indicators-in n = n / 8 % 2 % 2 * 8 + n / 4 % 2 % 2 * 4 + n % 4 % 4
 
@@ -102,14 +93,14 @@ module _ (m : List ℕ) (bytes : AreBytes m) where
 
   pub fit-in : Fit (codesIn m)
   fit-in = record {
-    latitude-fits = three-fits _ _ _ (b 5) (b 6) (b 7);
-    longitude-fits = three-fits _ _ _ (b 8) (b 9) (b 10);
-    altitude-fits = high-fits _ _ (b 11) (b 12);
+    latitude-fits = omega (arith, b 5, b 6, b 7);
+    longitude-fits = omega (arith, b 8, b 9, b 10);
+    altitude-fits = omega (arith, b 11, b 12);
     kind-fits = omega arith;
     extrapolated-fits = omega arith;
     airborne-fits = omega arith;
-    speed-fits = high-fits _ _ (b 14) (b 15);
-    climb-fits = low-fits _ _ (b 15) (b 16);
+    speed-fits = omega (arith, b 14, b 15);
+    climb-fits = omega (arith, b 15, b 16);
   }
 
   halves : (k : ℕ) → getD m k 0 / 16 % 16 * 16 + getD m k 0 % 16 % 16 ≡ getD m k 0

@@ -29,14 +29,14 @@ abbrev pub ReportReadWritten : Type 0
 ReportReadWritten = (id : ℕ) (m : List ℕ) → length m ≡ 28 → AreBytes m → getD m 0 0 ≡ id → reportBytes id (reportIn m) ≡ m
 
 -- 001 §3.5.2's traffic report, with the two bytes that hold the climb
-abbrev pub salem : ℕ → ℕ → List ℕ
-salem hv vv =
+abbrev pub exampleBytes : ℕ → ℕ → List ℕ
+exampleBytes hv vv =
     0x14 ∷ 0x00 ∷ 0xAB ∷ 0x45 ∷ 0x49 ∷ 0x1F ∷ 0xEF ∷ 0x15 ∷ 0xA8 ∷ 0x89 ∷ 0x78 ∷ 0x0F ∷ 0x09 ∷ 0xA9 ∷ 0x07 ∷ hv ∷ vv ∷ 0x20 ∷ 0x01
     ∷ 0x4E ∷ 0x38 ∷ 0x32 ∷ 0x35 ∷ 0x56 ∷ 0x20 ∷ 0x20 ∷ 0x20 ∷ 0x00 ∷ []
 
 -- what it says: N825V, a light aircraft, airborne, at 123 knots
-abbrev pub inSalem : Climb → Report
-inSalem v = record {
+abbrev pub exampleReport : Climb → Report
+exampleReport v = record {
   alert = 0;
   «address_type» = 0;
   address = 0xAB4549;
@@ -57,11 +57,11 @@ inSalem v = record {
 }
 
 -- 001 §3.5.2, with 5,000 feet; and the climbs of 01's value 8, in its place
-abbrev pub Salem : Type 0
-Salem =
-    (readReport 20 (salem 0xB0 0x01) ≡ accepted (Traffic (record { report = inSalem (Steps (pos 1)) })))
+abbrev pub ReportExamples : Type 0
+ReportExamples =
+    (readReport 20 (exampleBytes 0xB0 0x01) ≡ accepted (Traffic (record { report = exampleReport (Steps (pos 1)) })))
     × (pressureFeet (record { steps = 240 }) ≡ pos 5000)
-    × (readReport 20 (salem 0xB1 0xFD) ≡ accepted (Traffic (record { report = inSalem (Steps (pos 509)) })))
-    × (readReport 20 (salem 0xBE 0x03) ≡ accepted (Traffic (record { report = inSalem (Steps (negsuc 508)) })))
-    × (readReport 20 (salem 0xBF 0xFF) ≡ accepted (Traffic (record { report = inSalem (Steps (negsuc 0)) })))
-    × (readReport 20 (salem 0xB1 0xFF) ≡ Refused 8)
+    × (readReport 20 (exampleBytes 0xB1 0xFD) ≡ accepted (Traffic (record { report = exampleReport (Steps (pos 509)) })))
+    × (readReport 20 (exampleBytes 0xBE 0x03) ≡ accepted (Traffic (record { report = exampleReport (Steps (negsuc 508)) })))
+    × (readReport 20 (exampleBytes 0xBF 0xFF) ≡ accepted (Traffic (record { report = exampleReport (Steps (negsuc 0)) })))
+    × (readReport 20 (exampleBytes 0xB1 0xFF) ≡ Refused 8)

@@ -20,7 +20,7 @@ use Rattle.kinds.specs.declared.Reading.the-variants.{Message as accepted, Refu
 abbrev pub between : ℤ → ℤ → ℤ → Bool
 between low high z = leZ low z && leZ z high
 
--- within its range, and none exactly if latitude, longitude and integrity are all 0
+-- within its range (`negsuc k` is -(k + 1)), and none exactly if latitude, longitude and integrity are all 0
 unfoldable pub goodPosition : Position → ℕ → Bool
 goodPosition p integrity =
     between (negsuc 4194303) (pos 4194304) (placeOf p .latitude)

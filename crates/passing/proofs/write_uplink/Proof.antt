@@ -6,7 +6,7 @@ use Rattle.passing.proofs.write_uplink.Statement.{statement}
 use Rattle.passing.proofs.write_uplink.Tie as tie
 
 returns : tie.Need-returns
-returns c = other-size _ _ _ (c .if1 .taken)
+returns c = other-size _ (c .before .before .before .args .payload .now) _ (c .if1 .taken)
 
 head-of-requires : tie.Need-head-of-requires
 head-of-requires c κs = search needs

@@ -1,5 +1,7 @@
 -- `report::codes_in` meets its contract.
 -- Assumes nothing.
+use Prim.Native.Nat.{_/_, _%_}
+use lib.ListN.{getD}
 use borrow.Author.Needs.{needs}
 use Rattle.report.proofs.codes_in.Statement.{statement}
 use Rattle.report.proofs.codes_in.Tie as tie
@@ -23,7 +25,19 @@ low-at-requires : tie.Need-low-at-requires
 low-at-requires c κs = search needs
 
 returns : tie.Need-returns
-returns c = cc
+returns c =
+    let l = c .before .before .before in
+    let m = l .before .before .before .before .args .message .now in
+    λ i. record {
+      latitude = l .before .three-at .ensures i;
+      longitude = l .three-at2 .ensures i;
+      altitude = c .before .before .high-at .ensures i;
+      kind = getD m 12 0 % 4;
+      extrapolated = getD m 12 0 / 4 % 2;
+      airborne = getD m 12 0 / 8 % 2;
+      speed = c .before .high-at2 .ensures i;
+      climb = c .low-at .ensures i;
+    }
 
 pub codes-in-spec : {M : Type 1} → statement M
 codes-in-spec =
