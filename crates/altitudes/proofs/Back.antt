@@ -1,25 +1,23 @@
 -- Both directions of both kinds.
 -- Assumes nothing.
-use mathlib.Core.Path.{_≡_, refl, sym, ap, ap₂, _∙_}
+use mathlib.Core.Path.{_≡_, refl, sym, ap, _∙_}
 use mathlib.Core.Bool.{Bool, true, false, cond, not, _&&_}
-use Prim.Native.Nat.{ℕ, _+_, _-_, _*_, _/_, _%_, _<_}
-use mathlib.Core.List.{List, [], _∷_}
+use Prim.Native.Nat.{ℕ, _+_, _*_, _/_, _%_, _<_}
+use mathlib.Core.List.{[], _∷_}
 use native.Mathlib.Omega.{arith}
 use lib.Dec.{eqb, ltb, leb}
 use lib.IntN.{ℤ, pos, negsuc}
-use lib.ListN.{length, getD}
+use lib.ListN.{getD}
 use lib.Signed.{mag}
 use borrow.Author.Tests.{ne-eqb, le-leb, lt-leb, eqb-true, ltb-true, leb-true, leb-false, not-true}
 use Rattle.numbers.specs.Signed.{signedIn, fieldOf}
 use Rattle.numbers.proofs.Bytes.{byte-at, spread}
 use Rattle.numbers.proofs.Signed.{field-signed, signed-field}
-use Rattle.units.specs.declared.GeometricSteps.{GeometricSteps}
 use Rattle.kinds.specs.declared.Height.{Height}
 use Rattle.kinds.specs.declared.Height.the-variants.{Feet, None}
 use Rattle.kinds.specs.declared.HeightAboveTerrain.{HeightAboveTerrain}
 use Rattle.kinds.specs.declared.Merit.{Merit}
 use Rattle.kinds.specs.declared.Merit.the-variants.{Metres, Over, None as no-merit}
-use Rattle.kinds.specs.declared.GeometricAltitude.{GeometricAltitude}
 use Rattle.altitudes.specs.Height.{heightOf, heightField, goodHeight, terrainIn, terrainBytes}
 use Rattle.altitudes.specs.Geometric.{meritOf, meritField, goodMerit, geometricIn, geometricBytes}
 use Rattle.altitudes.specs.Claims.{TypedHeight, TerrainWrittenRead, TerrainReadWritten, GeometricWrittenRead, GeometricReadWritten}

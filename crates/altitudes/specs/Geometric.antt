@@ -8,7 +8,6 @@ use lib.Dec.{eqb, ltb, leb}
 use lib.ListN.{getD}
 use Rattle.numbers.specs.Signed.{signedIn, fieldOf}
 use Rattle.fields.specs.Reading.{reading}
-use Rattle.units.specs.declared.GeometricSteps.{GeometricSteps}
 use Rattle.kinds.specs.declared.Merit.{Merit}
 use Rattle.kinds.specs.declared.Merit.the-variants.{Metres, Over, None}
 use Rattle.kinds.specs.declared.GeometricAltitude.{GeometricAltitude}

@@ -7,7 +7,6 @@ use lib.Dec.{eqb}
 use lib.ListN.{getD}
 use Rattle.numbers.specs.Signed.{signedIn, fieldOf}
 use Rattle.fields.specs.Reading.{reading}
-use Rattle.units.specs.declared.TerrainFeet.{TerrainFeet}
 use Rattle.kinds.specs.declared.Height.{Height}
 use Rattle.kinds.specs.declared.Height.the-variants.{Feet, None}
 use Rattle.kinds.specs.declared.HeightAboveTerrain.{HeightAboveTerrain}

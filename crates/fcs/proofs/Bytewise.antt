@@ -13,7 +13,7 @@ use lib.Seq.{drop-cons}
 use Rattle.numbers.specs.Bits.{_⊕_, bit}
 use Rattle.numbers.proofs.Every.{every, at}
 use Rattle.numbers.proofs.Xor.{zero-⊕, ⊕-assoc}
-use Rattle.fcs.specs.Fcs.{step, bits, byteStep, fcs}
+use Rattle.fcs.specs.Fcs.{step, bits, byteStep}
 use Rattle.fcs.specs.Flips.{flip}
 use Rattle.fcs.proofs.Division.{are-bits, fold-small}
 use Rattle.fcs.proofs.Linearity.{fold-linear}

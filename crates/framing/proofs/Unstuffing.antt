@@ -8,7 +8,7 @@ use native.Mathlib.Omega.{arith}
 use lib.Dec.{eqb}
 use borrow.Author.Tests.{ne-eqb, eqb-true, eqb-false}
 use Rattle.numbers.specs.Bits.{_⊕_}
-use Rattle.framing.specs.Stuffing.{flag, controlEscape, escape, stuff, Unstuffed, unstuffed, before, unstuff, Flagless}
+use Rattle.framing.specs.Stuffing.{flag, controlEscape, escape, stuff, unstuffed, before, unstuff, Flagless}
 use Rattle.framing.specs.Claims.{Unstuffs, Restuffs, StuffedFlagless}
 
 -- a byte is a flag, an escape, or neither

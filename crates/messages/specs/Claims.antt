@@ -9,7 +9,6 @@ use lib.Signed.{mag}
 use Rattle.numbers.specs.Bytes.{AreBytes}
 use Rattle.kinds.specs.declared.Message.{Message}
 use Rattle.kinds.specs.declared.Message.the-variants.{Heartbeat, Initialization, Uplink, Height, Ownship, Geometric, Traffic, Basic, Long}
-use Rattle.kinds.specs.declared.Reading.{Reading}
 use Rattle.kinds.specs.declared.Reading.the-variants.{Message as Accepted}
 use Rattle.altitudes.specs.Claims.{TypedHeight}
 use Rattle.messages.specs.Message.{messageBytes, goodMessage, goodPayload, readMessage}

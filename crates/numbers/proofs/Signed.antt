@@ -10,7 +10,7 @@ use lib.Signed.{mag, ltZ}
 use mir.Syntax.{Width, w8, w16, w32, w64, w128}
 use mir.Val.{toZ, ofZ, SFits, bits, hbits}
 use mir.Facts.{toZ-pos, toZ-neg, toZ-ofZ}
-use borrow.Author.Tests.{lt-ltb, le-ltb, ltb-true, ltb-false}
+use borrow.Author.Tests.{lt-ltb, le-ltb, ltb-true}
 use Rattle.numbers.specs.Signed.{signedIn, fieldOf}
 
 pub field-signed : (half n : ℕ) → n < 2 * half → fieldOf half (signedIn half n) ≡ n

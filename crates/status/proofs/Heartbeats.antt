@@ -3,10 +3,10 @@
 use mathlib.Core.Path.{_≡_, refl, sym, ap, _∙_}
 use mathlib.Core.Bool.{Bool, true, _&&_}
 use Prim.Native.Nat.{ℕ, suc, _+_, _*_, _/_, _%_, _<_}
-use mathlib.Core.List.{List, _∷_}
+use mathlib.Core.List.{_∷_}
 use native.Mathlib.Omega.{arith}
 use lib.Dec.{T, ltb, ltb→lt, leb, leb→le}
-use lib.ListN.{length, getD}
+use lib.ListN.{getD}
 use denote.Floats.{passes}
 use Rattle.numbers.proofs.Bytes.{byte-at, spread, upTo}
 use Rattle.numbers.proofs.Every.{left, right}

@@ -3,16 +3,16 @@
 use mathlib.Core.Path.{_≡_, refl, sym, ap, _∙_, subst}
 use mathlib.Core.Bool.{Bool, true, false, cond, not}
 use Prim.Native.Nat.{ℕ, zero, suc, _+_, _-_, _*_, _/_, _%_, _^_, _≤_, _<_}
-use native.Mathlib.Nat.{mul-assoc, mul-comm, mul-left-comm, mul-right-comm, mul-one, one-mul, eq-of-mul-eq-mul-right, lt-of-le-of-lt, lt-of-lt-of-le, lt-trans, le-of-lt, mul-lt-mul-of-pos-right, mul-pos, le-of-suc-le-suc}
+use native.Mathlib.Nat.{mul-assoc, mul-comm, mul-left-comm, mul-right-comm, mul-one, eq-of-mul-eq-mul-right, lt-of-le-of-lt, lt-of-lt-of-le, lt-trans, le-of-lt, mul-pos, le-of-suc-le-suc}
 use native.Mathlib.Omega.{arith}
 use lib.Arith.{lt-of-le-ne}
 use borrow.Author.Tests.{ne-eqb, eqb-false}
-use lib.Dec.{T, leb, ltb, eqb, lit<, lit≤}
-use lib.Pow.{pow-add, pow-pos, shl-lt, pow-mono}
+use lib.Dec.{leb, eqb, lit<, lit≤}
+use lib.Pow.{pow-add, shl-lt, pow-mono}
 use lib.IntN.{ℤ, pos, negsuc, natAbs}
 use lib.Signed.{mag, nonNeg}
-use lib.Ieee.{Float, nan, inf, fin, Format, binary64, prec, emax, low, up, down, unlike, round, odd, mul, div, ofInt, ofBits, ofFields, toBits, fits}
-use lib.Ieee.Fits.{up-pos, down-pos, div-fits}
+use lib.Ieee.{Float, nan, inf, fin, binary64, emax, low, up, down, unlike, round, odd, mul, div, ofInt, ofBits, ofFields, toBits}
+use lib.Ieee.Fits.{down-pos, div-fits}
 use lib.Ieee.Exact.{HasValue, round-exact, odd-sign}
 use lib.Ieee.Back.{round-whole}
 use lib.Ieee.Bits.{ofBits-toBits}

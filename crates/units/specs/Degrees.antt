@@ -7,7 +7,6 @@ use lib.Dec.{leb, eqb}
 use lib.IntN.{ℤ, natAbs}
 use lib.Signed.{nonNeg, mag}
 use lib.Ieee.{Float, binary64, mul, div, ofInt, ofBits, toBits}
-use Rattle.units.specs.declared.Degrees.{Degrees}
 use Rattle.units.specs.declared.InDegrees.{InDegrees}
 use Rattle.units.specs.declared.InDegrees.the-variants.{At, Refused}
 

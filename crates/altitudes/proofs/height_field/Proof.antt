@@ -1,9 +1,6 @@
 -- `altitudes::height_field` meets its contract.
 -- Assumes nothing.
 use mathlib.Core.Path.{sym, ap, _∙_}
-use mathlib.Core.Bool.{not}
-use Prim.Native.Nat.{ℕ}
-use lib.Dec.{eqb}
 use mir.Syntax.{w16}
 use Rattle.numbers.specs.Signed.{fieldOf}
 use Rattle.numbers.proofs.Signed.{back}

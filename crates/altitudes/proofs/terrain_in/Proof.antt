@@ -1,6 +1,6 @@
 -- `altitudes::terrain_in` meets its contract.
 -- Assumes nothing.
-use mathlib.Core.Path.{_≡_, ap, _∙_}
+use mathlib.Core.Path.{ap, _∙_}
 use Rattle.kinds.specs.declared.Height.{Height}
 use Rattle.kinds.specs.declared.HeightAboveTerrain.{HeightAboveTerrain}
 use Rattle.altitudes.specs.Height.{heightOf, terrainIn}

@@ -3,9 +3,8 @@
 use native.Mathlib.Omega.{arith}
 use mathlib.Core.Path.{_≡_, ap, _∙_}
 use mathlib.Core.Bool.{cond}
-use Prim.Native.Nat.{ℕ, _+_, _≤_, _-_}
+use Prim.Native.Nat.{_+_, _≤_, _-_}
 use lib.ListN.{length, drop, getD}
-use Rattle.collecting.specs.declared.Answer.{Answer}
 use Rattle.collecting.specs.declared.Collector.{Collector}
 use Rattle.collecting.specs.declared.Collected.{Collected}
 use Rattle.collecting.specs.Step.{fresh, next, answerTo, stepped}

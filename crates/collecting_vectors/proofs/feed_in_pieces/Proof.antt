@@ -3,7 +3,6 @@
 use native.Mathlib.Omega.{arith}
 use Prim.Native.Nat.{_≤_, _-_}
 use lib.ListN.{length, length-take, length-drop}
-use borrow.Author.Needs.{needs}
 use Rattle.collecting_vectors.proofs.feed_in_pieces.Statement.{statement}
 use Rattle.collecting_vectors.proofs.feed_in_pieces.Tie as tie
 

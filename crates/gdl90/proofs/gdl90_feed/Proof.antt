@@ -1,6 +1,6 @@
 -- `gdl90::gdl90_feed` meets its contract: what `collecting::feed` answers and leaves.
 -- Assumes nothing.
-use mathlib.Core.Path.{_≡_, ap, _∙_}
+use mathlib.Core.Path.{ap, _∙_}
 use Rattle.collecting.specs.declared.Control.{Control}
 use Rattle.collecting.specs.Step.{held}
 use Rattle.collecting.specs.Stream.{Run, run}

@@ -2,10 +2,7 @@
 -- Assumes nothing.
 use borrow.Author.Needs.{needs}
 use mathlib.Core.Path.{_≡_, refl, sym, ap, _∙_, subst}
-use mathlib.Core.Bool.{Bool, true, false}
 use Prim.Native.Nat.{ℕ, _≤_, _<_}
-use lib.Dec.{leb}
-use lib.IntN.{ℤ}
 use lib.Signed.{mag}
 use lib.Ieee.{Float, binary64, toBits}
 use mir.Facts.{toZ-ofZ}

@@ -4,7 +4,7 @@ use mathlib.Core.Path.{_≡_, sym, ap, _∙_, subst}
 use Prim.Native.Nat.{_-_}
 use native.Mathlib.Omega.{arith}
 use lib.Dec.{T}
-use lib.IntN.{ℤ, natAbs, pos, negsuc}
+use lib.IntN.{ℤ, natAbs, pos}
 use lib.Signed.{nonNeg, mag}
 use mir.Syntax.{w32}
 use mir.Val.{Fits, toZ, ofZ}
