@@ -1,14 +1,14 @@
 -- Two's complement: both directions of a field, and what the machine computes by `!` at any width.
 -- Assumes nothing.
-use mathlib.Core.Path.{_≡_, refl, sym, ap, _∙_}
+use mathlib.Core.Path.{_≡_, refl, sym, ap, _∙_, subst}
 use mathlib.Core.Bool.{Bool, true, false, cond}
 use Prim.Native.Nat.{ℕ, suc, _-_, _*_, _^_, _≤_, _<_}
 use native.Mathlib.Omega.{arith}
-use lib.Dec.{ltb, lit≤}
-use lib.IntN.{ℤ, pos, negsuc}
-use lib.Signed.{mag, ltZ}
+use lib.Dec.{T, ltb, lit≤}
+use lib.IntN.{ℤ, pos, negsuc, natAbs}
+use lib.Signed.{mag, ltZ, nonNeg}
 use mir.Syntax.{Width, w8, w16, w32, w64, w128}
-use mir.Val.{toZ, ofZ, SFits, bits, hbits}
+use mir.Val.{toZ, ofZ, Fits, SFits, bits, hbits}
 use mir.Facts.{toZ-pos, toZ-neg, toZ-ofZ}
 use borrow.Author.Tests.{lt-ltb, le-ltb, ltb-true}
 use Rattle.numbers.specs.Signed.{signedIn, fieldOf}
@@ -73,3 +73,7 @@ module _ (w : Width) where
   -- a number that the width holds is read back
   pub back : (z : ℤ) → mag z < 2 ^ hbits w → toZ w (ofZ w z) ≡ z
   back z h = toZ-ofZ (record { sfits = h })
+
+  -- what a cast of a number that is not negative asks
+  pub asks : {z : ℤ} {n : ℕ} → z ≡ pos n → n < 2 ^ hbits w → T (nonNeg z) × Fits w (natAbs z)
+  asks e h = subst (λ (y : ℤ). T (nonNeg y) × Fits w (natAbs y)) (sym e) (tt, record { fits = omega (arith, within) })

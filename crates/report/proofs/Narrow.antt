@@ -1,21 +1,15 @@
--- What a cast of a signed number asks, and how large fields and numbers are.
+-- How large signed fields and numbers are.
 -- Assumes nothing.
-use mathlib.Core.Path.{_≡_, refl, sym, subst}
+use mathlib.Core.Path.{_≡_, refl}
 use mathlib.Core.Bool.{Bool, true, false, _&&_}
 use Prim.Native.Nat.{ℕ, _*_, _<_}
 use native.Mathlib.Omega.{arith}
-use lib.Dec.{T, leb}
-use lib.IntN.{ℤ, pos, negsuc, natAbs}
-use lib.Signed.{mag, nonNeg}
-use mir.Syntax.{w32}
-use mir.Val.{Fits}
+use lib.Dec.{leb}
+use lib.IntN.{ℤ, pos, negsuc}
+use lib.Signed.{mag}
 use borrow.Author.Tests.{leb-true}
 use Rattle.numbers.specs.Signed.{fieldOf}
 use Rattle.report.specs.Reading.{between}
-
--- what a cast of a signed number that is not negative asks
-pub asks : {z : ℤ} {n : ℕ} → z ≡ pos n → n < 2147483648 → T (nonNeg z) × Fits w32 (natAbs z)
-asks {z} {n} e h = subst (λ (y : ℤ). T (nonNeg y) × Fits w32 (natAbs y)) (sym e) (tt, record { fits = omega arith })
 
 pub field-fits : (half : ℕ) (z : ℤ) → mag z < half → fieldOf half z < 2 * half
 unfolding fieldOf

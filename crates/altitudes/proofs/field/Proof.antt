@@ -3,14 +3,13 @@
 use mathlib.Core.Path.{_≡_, sym, ap, _∙_, subst}
 use Prim.Native.Nat.{_-_, _≤_}
 use native.Mathlib.Omega.{arith}
-use lib.Dec.{T}
 use lib.IntN.{ℤ, natAbs, pos, negsuc}
-use lib.Signed.{nonNeg, mag}
+use lib.Signed.{mag}
 use mir.Syntax.{w16}
-use mir.Val.{Fits, toZ, ofZ}
+use mir.Val.{toZ, ofZ}
 use mir.Facts.{toZ-ofZ}
 use Rattle.numbers.specs.Signed.{fieldOf}
-use Rattle.numbers.proofs.Signed.{negative, natural, flipped}
+use Rattle.numbers.proofs.Signed.{negative, natural, flipped, asks}
 use Rattle.altitudes.proofs.field.Statement.{statement}
 use Rattle.altitudes.proofs.field.Tie as tie
 
@@ -24,7 +23,7 @@ same : (c : tie.Else1) → toZ w16 (ofZ w16 (c .before .args .n)) ≡ pos (mag (
 same c = toZ-ofZ (c .before .fits .n) ∙ natural w16 (c .before .args .n) (c .before .fits .n) (c .if1 .left)
 
 cast-result : tie.Need-cast-result
-cast-result c = subst (λ (z : ℤ). T (nonNeg z) × Fits w16 (natAbs z)) (sym (flip c)) (tt, record { fits = omega (arith, c .before .fits .n .sfits) })
+cast-result c = asks w16 (flip c) (c .before .fits .n .sfits)
 
 sub-result : tie.Need-sub-result
 sub-result c = subst (λ (z : ℤ). natAbs z ≤ 0xFFFF) (sym (flip c)) (omega (arith, c .before .fits .n .sfits))
@@ -34,7 +33,7 @@ unfolding fieldOf
 returns c = ap (λ (z : ℤ). 0xFFFF - natAbs z) (flip c) ∙ sym (ap (fieldOf 0x8000) (below c))
 
 cast-result-2 : tie.Need-cast-result-2
-cast-result-2 c = subst (λ (z : ℤ). T (nonNeg z) × Fits w16 (natAbs z)) (sym (same c)) (tt, record { fits = omega (arith, c .before .fits .n .sfits) })
+cast-result-2 c = asks w16 (same c) (c .before .fits .n .sfits)
 
 returns-2 : tie.Need-returns-2
 unfolding fieldOf

@@ -1,16 +1,14 @@
 -- `messages_vectors::print_signed` meets its contract, by the sign.
 -- Assumes nothing.
-use mathlib.Core.Path.{_≡_, sym, _∙_, subst}
+use mathlib.Core.Path.{_≡_, _∙_}
 use Prim.Native.Nat.{_-_}
-use native.Mathlib.Omega.{arith}
-use lib.Dec.{T}
-use lib.IntN.{ℤ, natAbs, pos}
-use lib.Signed.{nonNeg, mag}
+use lib.IntN.{pos}
+use lib.Signed.{mag}
 use mir.Syntax.{w32}
-use mir.Val.{Fits, toZ, ofZ}
+use mir.Val.{toZ, ofZ}
 use mir.Facts.{toZ-ofZ}
 use borrow.Author.Needs.{needs}
-use Rattle.numbers.proofs.Signed.{negative, natural, flipped}
+use Rattle.numbers.proofs.Signed.{negative, natural, flipped, asks}
 use Rattle.messages_vectors.proofs.print_signed.Statement.{statement}
 use Rattle.messages_vectors.proofs.print_signed.Tie as tie
 
@@ -28,7 +26,7 @@ print-requires c κs = search needs
 
 cast-beyond : tie.Need-cast-beyond
 cast-beyond c =
-    subst (λ (z : ℤ). T (nonNeg z) × Fits w32 (natAbs z)) (sym (flip (c .before .before))) (tt, record { fits = omega (arith, c .before .before .before .fits .n .sfits) })
+    asks w32 (flip (c .before .before)) (c .before .before .before .fits .n .sfits)
 
 beyond-requires : tie.Need-beyond-requires
 beyond-requires c κs = search needs
@@ -38,7 +36,7 @@ print-decimal-requires c κs = search needs
 
 cast-print-number : tie.Need-cast-print-number
 cast-print-number c =
-    subst (λ (z : ℤ). T (nonNeg z) × Fits w32 (natAbs z)) (sym (same c)) (tt, record { fits = omega (arith, c .before .fits .n .sfits) })
+    asks w32 (same c) (c .before .fits .n .sfits)
 
 print-number-requires : tie.Need-print-number-requires
 print-number-requires c κs = search needs

@@ -8,9 +8,8 @@ use lib.Signed.{mag}
 use mir.Syntax.{w32}
 use mir.Val.{toZ, ofZ}
 use mir.Facts.{toZ-ofZ}
-use Rattle.numbers.proofs.Signed.{negative, natural, flipped}
+use Rattle.numbers.proofs.Signed.{negative, natural, flipped, asks}
 use Rattle.numbers.specs.Signed.{fieldOf}
-use Rattle.report.proofs.Narrow.{asks}
 use Rattle.report.proofs.field_of.Statement.{statement}
 use Rattle.report.proofs.field_of.Tie as tie
 
@@ -33,7 +32,7 @@ sub-less : tie.Need-sub-less
 sub-less c = search needs
 
 cast-less : tie.Need-cast-less
-cast-less c = asks (flip c) (c .before .fits .n .sfits)
+cast-less c = asks w32 (flip c) (c .before .fits .n .sfits)
 
 less-requires : tie.Need-less-requires
 less-requires c κs = search needs
@@ -45,7 +44,7 @@ returns c =
     c .less .ensures ∙ ap (λ (z : ℤ). 2 * half - 1 - natAbs z) (flip (c .before)) ∙ sym (ap (fieldOf half) (below (c .before)))
 
 cast-result : tie.Need-cast-result
-cast-result c = asks (same c) (c .before .fits .n .sfits)
+cast-result c = asks w32 (same c) (c .before .fits .n .sfits)
 
 returns-2 : tie.Need-returns-2
 unfolding fieldOf

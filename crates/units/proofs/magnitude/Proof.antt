@@ -1,15 +1,13 @@
 -- `units::magnitude` meets its contract, by the sign.
 -- Assumes nothing.
-use mathlib.Core.Path.{_≡_, sym, ap, _∙_, subst}
+use mathlib.Core.Path.{_≡_, ap, _∙_}
 use Prim.Native.Nat.{_-_}
-use native.Mathlib.Omega.{arith}
-use lib.Dec.{T}
-use lib.IntN.{ℤ, natAbs, pos}
-use lib.Signed.{nonNeg, mag}
+use lib.IntN.{natAbs, pos}
+use lib.Signed.{mag}
 use mir.Syntax.{w32}
-use mir.Val.{Fits, toZ, ofZ}
+use mir.Val.{toZ, ofZ}
 use mir.Facts.{toZ-ofZ}
-use Rattle.numbers.proofs.Signed.{negative, natural, flipped}
+use Rattle.numbers.proofs.Signed.{negative, natural, flipped, asks}
 use Rattle.units.proofs.magnitude.Statement.{statement}
 use Rattle.units.proofs.magnitude.Tie as tie
 
@@ -21,11 +19,11 @@ same c = toZ-ofZ (c .before .fits .n) ∙ natural w32 (c .before .args .n) (c .b
 
 cast-result : tie.Need-cast-result
 cast-result c =
-    subst (λ (z : ℤ). T (nonNeg z) × Fits w32 (natAbs z)) (sym (flip c)) (tt, record { fits = omega (arith, c .before .fits .n .sfits) })
+    asks w32 (flip c) (c .before .fits .n .sfits)
 
 cast-result-2 : tie.Need-cast-result-2
 cast-result-2 c =
-    subst (λ (z : ℤ). T (nonNeg z) × Fits w32 (natAbs z)) (sym (same c)) (tt, record { fits = omega (arith, c .before .fits .n .sfits) })
+    asks w32 (same c) (c .before .fits .n .sfits)
 
 returns : tie.Need-returns
 returns c = ap natAbs (flip c)
