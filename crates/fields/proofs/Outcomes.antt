@@ -1,4 +1,4 @@
--- The ways a write ends, for every kind.
+-- The ways a write and a reading end, for every kind.
 -- Assumes nothing.
 use mathlib.Core.Path.{_≡_, refl, sym, ap, _∙_, subst₂}
 use mathlib.Core.Bool.{Bool, true, false, cond}
