@@ -9,7 +9,7 @@ use native.Mathlib.Numerals.{add-one}
 use lib.Dec.{eqb}
 use lib.ListN.{length, drop, getD, set, drop-of-length-le}
 use lib.Seq.{sets, drop-cons}
-use borrow.Author.Tests.{eq-eqb, ne-eqb, eqb-true, le-leb, lt-leb}
+use borrow.Author.Tests.{eq-eqb, eqb-true, le-leb, lt-leb}
 use Rattle.numbers.specs.Lent.{written}
 use Rattle.numbers.proofs.Storing.{from-first}
 use Rattle.fields.specs.declared.Written.{Written}
@@ -42,21 +42,6 @@ wrote {out = out} {left = left} {r = r} g e w = subst₂ (λ (x : Bool) (l : Lis
 pub refused : (good : Bool) (bytes out : List ℕ) → good ≡ false → Wrote good bytes out (Refused 8) out
 unfolding writing written
 refused good bytes out g = record { answers = simp g; leaves = refl }
-
--- the ways a reading ends
-module _ {X R : Type 0} (size : ℕ) (value : List ℕ → X) (good : X → Bool) (accepted : X → R) (refusal : ℕ → R) (m : List ℕ) where
-  pub wrong-size : (length m ≡ size → ⊥) → refusal 7 ≡ reading size value good accepted refusal m
-  unfolding reading
-  wrong-size n = simp (ne-eqb (length m) size n)
-
-  module _ (e : length m ≡ size) (v : X) (h : v ≡ value m) (t : Bool) (g : t ≡ good v) where
-    pub read-good : t ≡ true → accepted v ≡ reading size value good accepted refusal m
-    unfolding reading
-    read-good y = ap accepted h ∙ simp (eq-eqb (length m) size e, ap good (sym h) ∙ sym g ∙ y)
-
-    pub read-bad : t ≡ false → refusal 8 ≡ reading size value good accepted refusal m
-    unfolding reading
-    read-bad n = simp (eq-eqb (length m) size e, ap good (sym h) ∙ sym g ∙ n)
 
 module _ {X R : Type 0} (size : ℕ) (value : List ℕ → X) (good : X → Bool) (accepted : X → R) (refusal : ℕ → R) (m : List ℕ) where
   -- bytes that hold a good value are read as it
