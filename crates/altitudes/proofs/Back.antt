@@ -19,7 +19,7 @@ use Rattle.kinds.specs.declared.HeightAboveTerrain.{HeightAboveTerrain}
 use Rattle.kinds.specs.declared.Merit.{Merit}
 use Rattle.kinds.specs.declared.Merit.the-variants.{Metres, Over, None as no-merit}
 use Rattle.altitudes.specs.Height.{heightOf, heightField, goodHeight, terrainIn, terrainBytes}
-use Rattle.altitudes.specs.Geometric.{meritOf, meritField, goodMerit, geometricIn, geometricBytes}
+use Rattle.altitudes.specs.Geometric.{overMerit, meritOf, meritField, goodMerit, geometricIn, geometricBytes}
 use Rattle.altitudes.specs.Claims.{TypedHeight, TerrainWrittenRead, TerrainReadWritten, GeometricWrittenRead, GeometricReadWritten}
 
 -- 16 bits as two bytes, high byte first
@@ -64,7 +64,7 @@ terrain-read-written m long bytes id =
 pub merit-lt : (m : Merit) → goodMerit m ≡ true → meritField m < 0x8000
 merit-lt (Metres n) g = go (ltb n 0x7FFF) refl g
   where
-    go : (t : Bool) → ltb n 0x7FFF ≡ t → t && not (eqb n 0x7EEE) ≡ true → n < 0x8000
+    go : (t : Bool) → ltb n 0x7FFF ≡ t → t && not (eqb n overMerit) ≡ true → n < 0x8000
     go true e h = omega (arith, ltb-true n 0x7FFF e)
     go false e h = let z : _≡_ {A = ℕ} 0 1 = cc in absurd (omega arith)
 merit-lt Over g = omega arith
@@ -72,9 +72,9 @@ merit-lt no-merit g = omega arith
 
 merit-back : (m : Merit) → goodMerit m ≡ true → meritOf (meritField m) ≡ m
 unfolding meritOf
-merit-back (Metres n) g = go (ltb n 0x7FFF) (eqb n 0x7EEE) refl refl g
+merit-back (Metres n) g = go (ltb n 0x7FFF) (eqb n overMerit) refl refl g
   where
-    go : (t u : Bool) → ltb n 0x7FFF ≡ t → eqb n 0x7EEE ≡ u → t && not u ≡ true → cond (eqb n 0x7FFF) no-merit (cond (eqb n 0x7EEE) Over (Metres n)) ≡ Metres n
+    go : (t u : Bool) → ltb n 0x7FFF ≡ t → eqb n overMerit ≡ u → t && not u ≡ true → cond (eqb n 0x7FFF) no-merit (cond (eqb n overMerit) Over (Metres n)) ≡ Metres n
     go true false e f h = simp (ne-eqb n 0x7FFF (λ q. omega (arith, ltb-true n 0x7FFF e)), f)
     go true true e f h = let z : _≡_ {A = ℕ} 0 1 = cc in absurd (omega arith)
     go false u e f h = let z : _≡_ {A = ℕ} 0 1 = cc in absurd (omega arith)
@@ -83,11 +83,11 @@ merit-back no-merit g = refl
 
 merit-there : (n : ℕ) → meritField (meritOf n) ≡ n
 unfolding meritOf
-merit-there n = go (eqb n 0x7FFF) (eqb n 0x7EEE) refl refl
+merit-there n = go (eqb n 0x7FFF) (eqb n overMerit) refl refl
   where
-    go : (t u : Bool) → eqb n 0x7FFF ≡ t → eqb n 0x7EEE ≡ u → meritField (cond t no-merit (cond u Over (Metres n))) ≡ n
+    go : (t u : Bool) → eqb n 0x7FFF ≡ t → eqb n overMerit ≡ u → meritField (cond t no-merit (cond u Over (Metres n))) ≡ n
     go true u e f = sym (eqb-true n 0x7FFF e)
-    go false true e f = sym (eqb-true n 0x7EEE f)
+    go false true e f = sym (eqb-true n overMerit f)
     go false false e f = refl
 
 -- the warning above 15 bits

@@ -1,5 +1,5 @@
 -- Ownship geometric altitude (001 §3.8), id 11, five bytes: signed steps of 5 feet, high byte first; then a warning in bit 15 and a
--- figure of merit in metres in the other 15 bits: 0x7FFF none, 0x7EEE over 32,766 (01).
+-- figure of merit in metres in the other 15 bits; 0x7FFF is none.
 -- Assumes nothing.
 use Prim.Native.Nat.{ℕ, _+_, _*_, _/_, _%_}
 use mathlib.Core.Bool.{Bool, true, cond, not, _&&_}
@@ -15,17 +15,21 @@ use Rattle.kinds.specs.declared.Message.the-variants as kind
 use Rattle.kinds.specs.declared.Reading.{Reading}
 use Rattle.kinds.specs.declared.Reading.the-variants.{Message, Refused}
 
+-- the mark of a merit over 32,766 metres (01)
+abbrev pub overMerit : ℕ
+overMerit = 0x7EEE
+
 unfoldable pub meritOf : ℕ → Merit
-meritOf n = cond (eqb n 0x7FFF) None (cond (eqb n 0x7EEE) Over (Metres n))
+meritOf n = cond (eqb n 0x7FFF) None (cond (eqb n overMerit) Over (Metres n))
 
 abbrev pub meritField : Merit → ℕ
 meritField (Metres n) = n
-meritField Over = 0x7EEE
+meritField Over = overMerit
 meritField None = 0x7FFF
 
 -- within 15 bits, and no mark as a plain number
 abbrev pub goodMerit : Merit → Bool
-goodMerit (Metres n) = ltb n 0x7FFF && not (eqb n 0x7EEE)
+goodMerit (Metres n) = ltb n 0x7FFF && not (eqb n overMerit)
 goodMerit Over = true
 goodMerit None = true
 

@@ -17,6 +17,9 @@ use kinds::Reading;
 use units::GeometricSteps;
 use units::TerrainFeet;
 
+// The mark of a merit over 32,766 metres (01).
+const OVER_MERIT: u16 = 0x7EEE;
+
 // The bytes of a message whose id is 9.
 pub fn read_height(message: &[u8]) -> Reading
     ensures { λ r. ⌜ r ≡ readTerrain (now (message .entry)) ⌝ }
@@ -146,7 +149,7 @@ fn merit_of(n: u16) -> Merit
     if n == 0x7FFF {
         return Merit::None;
     }
-    if n == 0x7EEE {
+    if n == OVER_MERIT {
         return Merit::Over;
     }
     Merit::Metres(n)
@@ -157,7 +160,7 @@ fn merit_field(merit: Merit) -> u16
 {
     match merit {
         Merit::Metres(n) => n,
-        Merit::Over => 0x7EEE,
+        Merit::Over => OVER_MERIT,
         Merit::None => 0x7FFF,
     }
 }
@@ -166,7 +169,7 @@ fn is_good_merit(merit: Merit) -> bool
     ensures { λ r. ⌜ r ≡ goodMerit merit ⌝ }
 {
     match merit {
-        Merit::Metres(n) => (n < 0x7FFF) & !(n == 0x7EEE),
+        Merit::Metres(n) => (n < 0x7FFF) & !(n == OVER_MERIT),
         Merit::Over => true,
         Merit::None => true,
     }
