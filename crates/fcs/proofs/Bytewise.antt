@@ -7,9 +7,10 @@ use native.Mathlib.Omega.{arith}
 use native.Mathlib.Nat.{div-add-mod'}
 use native.Mathlib.Numerals.{add-one}
 use lib.Bits.{xor-shifted, xor-lt}
-use lib.Dec.{eqb, eqb→eq}
+use lib.Dec.{eqb}
 use lib.ListN.{length, getD, drop, replicate, drop-of-length-le}
 use lib.Seq.{drop-cons}
+use borrow.Author.Tests.{eqb-true}
 use Rattle.numbers.specs.Bits.{_⊕_, bit}
 use Rattle.numbers.proofs.Every.{every, at}
 use Rattle.numbers.proofs.Xor.{zero-⊕, ⊕-assoc}
@@ -26,7 +27,7 @@ spread t = t ⊕ t * 32 ⊕ t % 16 * 4096
 -- computed at each of the 256
 high : (h : ℕ) → h < 256 → spread (h ⊕ h / 16) ≡ foldl step (h * 256) (replicate 8 0)
 unfolding spread every bit step _⊕_
-high h l = eqb→eq _ _ (at (λ k. eqb (spread (k ⊕ k / 16)) (foldl step (k * 256) (replicate 8 0))) 256 tt h l)
+high h l = eqb-true _ _ (at (λ k. eqb (spread (k ⊕ k / 16)) (foldl step (k * 256) (replicate 8 0))) 256 refl h l)
 
 joined : (n b : ℕ) → b < 256 → n * 256 ⊕ b ≡ n * 256 + b
 unfolding _⊕_

@@ -28,6 +28,11 @@ signed-field half (negsuc k) h =
     let back : 2 * half - 1 - (2 * half - 1 - k) ≡ k = omega arith in
     simp (le-ltb (2 * half - 1 - k) half (omega arith), back)
 
+pub field-fits : (half : ℕ) (z : ℤ) → mag z < half → fieldOf half z < 2 * half
+unfolding fieldOf
+field-fits half (pos n) h = omega arith
+field-fits half (negsuc k) h = omega arith
+
 module _ (w : Width) where
   within : 2 ^ hbits w ≤ 2 ^ bits w
   within = go w

@@ -7,12 +7,12 @@ use native.Mathlib.Omega.{arith}
 use lib.Dec.{eqb}
 use borrow.Author.Tests.{ltb-true}
 use Rattle.numbers.specs.Signed.{signedIn, fieldOf}
+use Rattle.numbers.proofs.Every.{both}
 use Rattle.report.specs.Marks.{positionOf, altitudeOf, kindOf, speedOf, climbOf}
 use Rattle.report.specs.Bytes.{codesIn, codesOf, reportIn, packed, reportBytes}
 use Rattle.fields.specs.Reading.{reading}
 use Rattle.report.specs.Reading.{goodReport, goodPosition, carriedBy}
 use Rattle.report.specs.Claims.{ReportWrittenRead, ReportReadWritten, ReportExamples}
-use Rattle.report.proofs.Narrow.{both}
 use Rattle.report.proofs.Marked.{altitude-code, altitude-back, speed-code, speed-back, climb-code, climb-back, kind-code, kind-back, bit-code, bit-back, position-code, position-back}
 use Rattle.report.proofs.Packing.{Fit, from-three, upper, lower, codes-back, fit-in, bytes-back}
 

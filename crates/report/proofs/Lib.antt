@@ -1,4 +1,3 @@
 pub mod Laws
 pub mod Marked
-pub mod Narrow
 pub mod Packing

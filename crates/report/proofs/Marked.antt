@@ -4,17 +4,15 @@ use mathlib.Core.Path.{_≡_, refl, sym, ap}
 use mathlib.Core.Bool.{Bool, true, false, cond, Bool·beq, _&&_}
 use Prim.Native.Nat.{ℕ, _<_}
 use native.Mathlib.Omega.{arith}
-use lib.Dec.{eqb, ltb, eqb→eq}
+use lib.Dec.{eqb, ltb, leb}
 use lib.IntN.{ℤ, pos, negsuc}
 use lib.Signed.{mag}
 use borrow.Author.Tests.{ne-eqb, ltb-true, eqb-true, leb-true}
-use Rattle.numbers.proofs.Every.{every, at}
-use Rattle.numbers.proofs.Signed.{field-signed, signed-field}
+use Rattle.numbers.proofs.Every.{both, every, at}
+use Rattle.numbers.proofs.Signed.{field-signed, signed-field, field-fits}
 use Rattle.numbers.specs.Signed.{signedIn, fieldOf}
-use Rattle.report.specs.Reading.{between}
 use Rattle.report.specs.Marks.{noneMark, positionOf, isNone, placeOf, altitudeOf, stepsOr, kindOf, kindNumber, bit, speedOf, knotsOr, climbOf, climbOr}
-use Rattle.report.specs.Reading.{goodPosition}
-use Rattle.report.proofs.Narrow.{field-fits, both, sized}
+use Rattle.report.specs.Reading.{between, goodPosition}
 use Rattle.kinds.specs.declared.Position.{Position}
 use Rattle.kinds.specs.declared.Position.the-variants.{At, None as no-position}
 use Rattle.kinds.specs.declared.Altitude.{Altitude}
@@ -25,6 +23,11 @@ use Rattle.kinds.specs.declared.Speed.{Speed}
 use Rattle.kinds.specs.declared.Speed.the-variants.{Knots, Over, None as no-speed}
 use Rattle.kinds.specs.declared.Climb.{Climb}
 use Rattle.kinds.specs.declared.Climb.the-variants.{Steps, Above, Below, None as no-climb}
+
+-- a number from -a-1 to b
+sized : (a b half : ℕ) (z : ℤ) → between (negsuc a) (pos b) z ≡ true → a < half → b < half → mag z < half
+sized a b half (pos n) e h k = omega (arith, leb-true n b e)
+sized a b half (negsuc n) e h k = omega (arith, leb-true n a (both (leb n a) true e .0))
 
 -- ---- altitude and speed
 
@@ -97,7 +100,7 @@ climb-back no-climb g = (refl, omega arith)
 
 pub kind-code : (n : ℕ) → n < 4 → kindNumber (kindOf n) ≡ n
 unfolding kindOf every
-kind-code n h = eqb→eq _ n (at (λ k. eqb (kindNumber (kindOf k)) k) 4 tt n h)
+kind-code n h = eqb-true _ n (at (λ k. eqb (kindNumber (kindOf k)) k) 4 refl n h)
 
 pub kind-back : (k : TrackKind) → (kindOf (kindNumber k) ≡ k) × (kindNumber k < 4)
 unfolding kindOf
@@ -108,7 +111,7 @@ kind-back TrueHeading = (refl, omega arith)
 
 pub bit-code : (n : ℕ) → n < 2 → bit (eqb n 1) ≡ n
 unfolding every
-bit-code n h = eqb→eq _ n (at (λ k. eqb (bit (eqb k 1)) k) 2 tt n h)
+bit-code n h = eqb-true _ n (at (λ k. eqb (bit (eqb k 1)) k) 2 refl n h)
 
 pub bit-back : (b : Bool) → (eqb (bit b) 1 ≡ b) × (bit b < 2)
 bit-back true = (refl, omega arith)

@@ -1,11 +1,12 @@
 -- The bytes, and the numbers in them, hold the same.
 -- Assumes nothing.
-use mathlib.Core.Path.{_≡_, sym, _∙_}
+use mathlib.Core.Path.{_≡_, refl, sym, _∙_}
 use mathlib.Core.List.{List, [], _∷_}
 use Prim.Native.Nat.{ℕ, _+_, _*_, _/_, _%_, _<_}
 use native.Mathlib.Omega.{arith}
-use lib.Dec.{eqb, eqb→eq}
+use lib.Dec.{eqb}
 use lib.ListN.{length, getD}
+use borrow.Author.Tests.{eqb-true}
 use Rattle.numbers.specs.Bytes.{AreBytes}
 use Rattle.numbers.proofs.Every.{every, at}
 use Rattle.numbers.proofs.Bytes.{byte-at, spread}
@@ -82,7 +83,7 @@ indicators-in n = n / 8 % 2 % 2 * 8 + n / 4 % 2 % 2 * 4 + n % 4 % 4
 
 indicators-back : (n : ℕ) → n < 256 → indicators-in n ≡ n % 16
 unfolding every
-indicators-back n h = eqb→eq _ _ (at (λ k. eqb (indicators-in k) (k % 16)) 256 tt n h)
+indicators-back n h = eqb-true _ _ (at (λ k. eqb (indicators-in k) (k % 16)) 256 refl n h)
 
 lower-kept : (a b : ℕ) → b < 256 → twelveHigh a b % 16 * 16 + b % 16 ≡ b
 lower-kept a b h = omega arith

@@ -1,37 +1,34 @@
 -- Laws of the heartbeat.
 -- Assumes nothing.
 use mathlib.Core.Path.{_≡_, refl, sym, ap, _∙_}
-use mathlib.Core.Bool.{Bool, true, _&&_}
+use mathlib.Core.Bool.{true}
 use Prim.Native.Nat.{ℕ, suc, _+_, _*_, _/_, _%_, _<_}
 use mathlib.Core.List.{_∷_}
 use native.Mathlib.Omega.{arith}
-use lib.Dec.{T, ltb, ltb→lt, leb, leb→le}
+use lib.Dec.{ltb, leb}
 use lib.ListN.{getD}
-use denote.Floats.{passes}
+use borrow.Author.Tests.{ltb-true, leb-true}
 use Rattle.numbers.proofs.Bytes.{byte-at, spread, upTo}
-use Rattle.numbers.proofs.Every.{left, right}
+use Rattle.numbers.proofs.Every.{both}
 use Rattle.kinds.specs.declared.Heartbeat.{Heartbeat}
 use Rattle.status.specs.Heartbeat.{lastSecond, timeOf, countOf, heartbeatIn, goodHeartbeat, HeartbeatBits}
 use Rattle.fields.specs.Reading.{reading}
 use Rattle.status.specs.Claims.{HeartbeatWrittenRead, HeartbeatReadWritten, Values}
 
-both : (a b : Bool) → T (a && b) → T a × T b
-both a b t = (left a b t, right a b t)
-
 -- a good heartbeat's fields are within their bits
 pub in-bits : (h : Heartbeat) → goodHeartbeat h ≡ true → HeartbeatBits h
 in-bits h g =
-    let a = both (ltb (h .status2) 128) _ (passes (goodHeartbeat h) g) in
+    let a = both (ltb (h .status2) 128) _ g in
     let b = both (leb (h .time) lastSecond) _ (a .1) in
     let d = both (ltb (h .uplinks) 32) _ (b .1) in
     let e = both (ltb (h .reserved) 2) _ (d .1) in
-    let day = leb→le (h .time) lastSecond (b .0) in
+    let day = leb-true (h .time) lastSecond (b .0) in
     record {
-      status2 = ltb→lt _ _ (a .0);
+      status2 = ltb-true _ _ (a .0);
       time = omega arith;
-      uplinks = ltb→lt _ _ (d .0);
-      reserved = ltb→lt _ _ (e .0);
-      received = ltb→lt _ _ (e .1);
+      uplinks = ltb-true _ _ (d .0);
+      reserved = ltb-true _ _ (e .0);
+      received = ltb-true _ _ (e .1);
     }
 
 -- three bytes hold the time and the rest of status byte 2
