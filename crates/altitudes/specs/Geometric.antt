@@ -2,15 +2,17 @@
 -- figure of merit in metres in the other 15 bits; 0x7FFF is none.
 -- Assumes nothing.
 use Prim.Native.Nat.{ℕ, _+_, _*_, _/_, _%_}
-use mathlib.Core.Bool.{Bool, true, cond, not, _&&_}
+use mathlib.Core.Bool.{Bool, true, false, cond, not, _&&_}
 use mathlib.Core.List.{List, [], _∷_}
 use lib.Dec.{eqb, ltb, leb}
+use lib.IntN.{pos}
 use lib.ListN.{getD}
 use Rattle.numbers.specs.Signed.{signedIn, fieldOf}
 use Rattle.fields.specs.Reading.{reading}
 use Rattle.kinds.specs.declared.Merit.{Merit}
 use Rattle.kinds.specs.declared.Merit.the-variants.{Metres, Over, None}
 use Rattle.kinds.specs.declared.GeometricAltitude.{GeometricAltitude}
+use Rattle.kinds.specs.declared.GeometricRead.{GeometricRead}
 use Rattle.kinds.specs.declared.Message.the-variants as kind
 use Rattle.kinds.specs.declared.Reading.{Reading}
 use Rattle.kinds.specs.declared.Reading.the-variants.{Message, Refused}
@@ -51,6 +53,15 @@ geometricBytes g =
 
 abbrev pub goodGeometric : GeometricAltitude → Bool
 goodGeometric g = goodMerit (g .merit)
+
+abbrev pub geometricRefused : ℕ → GeometricRead
+geometricRefused k = record {
+  number = k;
+  geometric = record { altitude = record { steps = pos 0 }; warning = false; merit = Metres 0 };
+}
+
+abbrev pub geometricRead : List ℕ → GeometricRead
+geometricRead = reading 5 geometricIn goodGeometric (λ x. record { number = 0; geometric = x }) geometricRefused
 
 abbrev pub readGeometric : List ℕ → Reading
 readGeometric = reading 5 geometricIn goodGeometric (λ x. Message (kind.Geometric x)) Refused

@@ -4,12 +4,14 @@ use Prim.Native.Nat.{ℕ, _+_, _*_, _/_, _%_}
 use mathlib.Core.Bool.{Bool, true, cond, not}
 use mathlib.Core.List.{List, [], _∷_}
 use lib.Dec.{eqb}
+use lib.IntN.{pos}
 use lib.ListN.{getD}
 use Rattle.numbers.specs.Signed.{signedIn, fieldOf}
 use Rattle.fields.specs.Reading.{reading}
 use Rattle.kinds.specs.declared.Height.{Height}
 use Rattle.kinds.specs.declared.Height.the-variants.{Feet, None}
 use Rattle.kinds.specs.declared.HeightAboveTerrain.{HeightAboveTerrain}
+use Rattle.kinds.specs.declared.HeightRead.{HeightRead}
 use Rattle.kinds.specs.declared.Message.the-variants as kind
 use Rattle.kinds.specs.declared.Reading.{Reading}
 use Rattle.kinds.specs.declared.Reading.the-variants.{Message, Refused}
@@ -34,6 +36,13 @@ terrainBytes h = 9 ∷ heightField (h .height) / 256 ∷ heightField (h .height)
 
 abbrev pub goodTerrain : HeightAboveTerrain → Bool
 goodTerrain h = goodHeight (h .height)
+
+abbrev pub heightRefused : ℕ → HeightRead
+heightRefused k = record { number = k; height = record { height = Feet (record { feet = pos 0 }) } }
+
+-- 01's number with the value, and the same as a message of whatever kind
+abbrev pub heightRead : List ℕ → HeightRead
+heightRead = reading 3 terrainIn goodTerrain (λ x. record { number = 0; height = x }) heightRefused
 
 abbrev pub readTerrain : List ℕ → Reading
 readTerrain = reading 3 terrainIn goodTerrain (λ x. Message (kind.Height x)) Refused

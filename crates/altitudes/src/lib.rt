@@ -5,15 +5,15 @@ ghost use Prim.Native.Nat.{_+_, _*_, _≤_, _<_};
 ghost use lib.ListN.{length};
 ghost use Rattle.numbers.specs.Signed.{signedIn, fieldOf};
 ghost use Rattle.fields.specs.Writing.{Wrote};
-ghost use Rattle.altitudes.specs.Height.{heightOf, heightField, goodHeight, goodTerrain, terrainIn, terrainBytes, readTerrain};
-ghost use Rattle.altitudes.specs.Geometric.{meritOf, meritField, goodMerit, goodGeometric, geometricIn, geometricBytes, readGeometric};
+ghost use Rattle.altitudes.specs.Height.{heightOf, heightField, goodHeight, goodTerrain, terrainIn, terrainBytes, heightRefused, heightRead};
+ghost use Rattle.altitudes.specs.Geometric.{meritOf, meritField, goodMerit, goodGeometric, geometricIn, geometricBytes, geometricRefused, geometricRead};
 use fields::Written;
 use kinds::GeometricAltitude;
+use kinds::GeometricRead;
 use kinds::Height;
 use kinds::HeightAboveTerrain;
+use kinds::HeightRead;
 use kinds::Merit;
-use kinds::Message;
-use kinds::Reading;
 use units::GeometricSteps;
 use units::TerrainFeet;
 
@@ -21,18 +21,32 @@ use units::TerrainFeet;
 const OVER_MERIT: u16 = 0x7EEE;
 
 // The bytes of a message whose id is 9.
-pub fn read_height(message: &[u8]) -> Reading
-    ensures { λ r. ⌜ r ≡ readTerrain (now (message .entry)) ⌝ }
+pub fn read_height(message: &[u8]) -> HeightRead
+    ensures { λ r. ⌜ r ≡ heightRead (now (message .entry)) ⌝ }
 {
     if message.len() != HeightAboveTerrain::LENGTH {
-        return Reading::Refused(7);
+        return height_refused(7);
     }
     let value = terrain_in(message);
     let height = value.height;
     if is_good_height(height) {
-        return Reading::Message(Message::Height(value));
+        HeightRead {
+            number: 0,
+            height: value,
+        }
+    } else {
+        height_refused(8)
     }
-    Reading::Refused(8)
+}
+
+fn height_refused(number: u8) -> HeightRead
+    ensures { λ r. ⌜ r ≡ heightRefused number ⌝ }
+{
+    let height = Height::Feet(TerrainFeet { feet: 0 });
+    HeightRead {
+        number,
+        height: HeightAboveTerrain { height },
+    }
 }
 
 fn terrain_in(message: &[u8]) -> HeightAboveTerrain
@@ -115,18 +129,37 @@ fn height_bytes(value: HeightAboveTerrain) -> [u8; 3]
 }
 
 // The bytes of a message whose id is 11.
-pub fn read_geometric(message: &[u8]) -> Reading
-    ensures { λ r. ⌜ r ≡ readGeometric (now (message .entry)) ⌝ }
+pub fn read_geometric(message: &[u8]) -> GeometricRead
+    ensures { λ r. ⌜ r ≡ geometricRead (now (message .entry)) ⌝ }
 {
     if message.len() != GeometricAltitude::LENGTH {
-        return Reading::Refused(7);
+        return geometric_refused(7);
     }
-    let value = geometric_in(message);
-    let merit = value.merit;
+    let geometric = geometric_in(message);
+    let merit = geometric.merit;
     if is_good_merit(merit) {
-        return Reading::Message(Message::Geometric(value));
+        GeometricRead {
+            number: 0,
+            geometric,
+        }
+    } else {
+        geometric_refused(8)
     }
-    Reading::Refused(8)
+}
+
+fn geometric_refused(number: u8) -> GeometricRead
+    ensures { λ r. ⌜ r ≡ geometricRefused number ⌝ }
+{
+    let altitude = GeometricSteps { steps: 0 };
+    let merit = Merit::Metres(0);
+    GeometricRead {
+        number,
+        geometric: GeometricAltitude {
+            altitude,
+            warning: false,
+            merit,
+        },
+    }
 }
 
 fn geometric_in(message: &[u8]) -> GeometricAltitude

@@ -60,3 +60,15 @@ module _ {X R : Type 0} (size : ℕ) (value : List ℕ → X) (good : X → Bool
       go true e true g h = (eqb-true (length m) size e, g, h)
       go true e false g h = absurd (never 8 h)
       go false e u g h = absurd (never 7 h)
+
+  -- what is made of the answer
+  pub made : {S : Type 0} (taken : X → S) (left : ℕ → S) {r : R} (h : R → S) → r ≡ reading size value good accepted refusal m
+      → ((x : X) → h (accepted x) ≡ taken x) → h (refusal 7) ≡ left 7 → h (refusal 8) ≡ left 8 → h r ≡ reading size value good taken left m
+  unfolding reading
+  made taken left h e a b c = ap h e ∙ go (eqb (length m) size) (good (value m))
+    where
+      go : (t u : Bool) → h (cond t (cond u (accepted (value m)) (refusal 8)) (refusal 7)) ≡ cond t (cond u (taken (value m)) (left 8)) (left 7)
+      go true true = a (value m)
+      go true false = c
+      go false true = b
+      go false false = b

@@ -5,6 +5,7 @@ use units::PressureSteps;
 use units::TerrainFeet;
 
 // 001 §3.1
+#[repr(C)]
 pub struct Heartbeat {
     pub status1: u8,
     // bits 6 to 0; bit 7 is the time's
@@ -23,6 +24,7 @@ impl Heartbeat {
 }
 
 // 001 §3.2
+#[repr(C)]
 pub struct Initialization {
     pub first: u8,
     pub second: u8,
@@ -103,6 +105,7 @@ pub enum Climb {
     None,
 }
 
+#[repr(C)]
 pub struct Bytes8(
     pub u8,
     pub u8,
@@ -207,6 +210,49 @@ impl LongPassThrough {
     pub const ID: u8 = 31;
 
     pub const LENGTH: usize = 38;
+}
+
+// What reading one kind answers: 01's number, and the value, which is all zero with a refusal.
+#[repr(C)]
+pub struct HeartbeatRead {
+    pub number: u8,
+    pub heartbeat: Heartbeat,
+}
+
+#[repr(C)]
+pub struct InitializationRead {
+    pub number: u8,
+    pub initialization: Initialization,
+}
+
+pub struct UplinkRead {
+    pub number: u8,
+    pub uplink: Uplink,
+}
+
+pub struct HeightRead {
+    pub number: u8,
+    pub height: HeightAboveTerrain,
+}
+
+pub struct ReportRead {
+    pub number: u8,
+    pub report: Report,
+}
+
+pub struct GeometricRead {
+    pub number: u8,
+    pub geometric: GeometricAltitude,
+}
+
+pub struct BasicRead {
+    pub number: u8,
+    pub basic: BasicPassThrough,
+}
+
+pub struct LongRead {
+    pub number: u8,
+    pub long: LongPassThrough,
 }
 
 pub enum Message {

@@ -54,6 +54,10 @@ readAs kind.Unknown m = Refused 6
 unfoldable pub readMessage : List ℕ → Reading
 readMessage m = cond (eqb (length m) 0) (Refused 6) (readAs (kindOf (getD m 0 0)) m)
 
+-- a kind's answer as a reading
+abbrev pub asReading : ℕ → Message → Reading
+asReading k x = cond (eqb k 0) (Accepted x) (Refused k)
+
 -- 01's number for each case of a reading
 abbrev pub number : Reading → ℕ
 number (Accepted x) = 0

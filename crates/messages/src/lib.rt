@@ -1,6 +1,6 @@
 // Reading and writing a message of whatever kind (001 §3; 01 'Messages and their lengths').
 ghost use mathlib.Core.Path.{_≡_};
-ghost use Rattle.messages.specs.Message.{kindOf, readAs, readMessage, WroteMessage};
+ghost use Rattle.messages.specs.Message.{kindOf, readAs, asReading, readMessage, WroteMessage};
 use fields::Written;
 use kinds::BasicPassThrough;
 use kinds::GeometricAltitude;
@@ -59,16 +59,62 @@ fn read_as(kind: Kind, message: &[u8]) -> Reading
     ensures { λ r. ⌜ r ≡ readAs kind (now (message .entry)) ⌝ }
 {
     match kind {
-        Kind::Heartbeat => status::read_heartbeat(message),
-        Kind::Initialization => status::read_initialization(message),
-        Kind::Uplink => passing::read_uplink(message),
-        Kind::Height => altitudes::read_height(message),
-        Kind::Ownship => report::read_report(Ownship::ID, message),
-        Kind::Geometric => altitudes::read_geometric(message),
-        Kind::Traffic => report::read_report(Traffic::ID, message),
-        Kind::Basic => passing::read_basic_pass_through(message),
-        Kind::Long => passing::read_long_pass_through(message),
+        Kind::Heartbeat => {
+            let read = status::read_heartbeat(message);
+            let heartbeat = read.heartbeat;
+            as_reading(read.number, Message::Heartbeat(heartbeat))
+        }
+        Kind::Initialization => {
+            let read = status::read_initialization(message);
+            let initialization = read.initialization;
+            as_reading(read.number, Message::Initialization(initialization))
+        }
+        Kind::Uplink => {
+            let read = passing::read_uplink(message);
+            let uplink = read.uplink;
+            as_reading(read.number, Message::Uplink(uplink))
+        }
+        Kind::Height => {
+            let read = altitudes::read_height(message);
+            let height = read.height;
+            as_reading(read.number, Message::Height(height))
+        }
+        Kind::Ownship => {
+            let read = report::read_report(message);
+            let report = read.report;
+            as_reading(read.number, Message::Ownship(Ownship { report }))
+        }
+        Kind::Geometric => {
+            let read = altitudes::read_geometric(message);
+            let geometric = read.geometric;
+            as_reading(read.number, Message::Geometric(geometric))
+        }
+        Kind::Traffic => {
+            let read = report::read_report(message);
+            let report = read.report;
+            as_reading(read.number, Message::Traffic(Traffic { report }))
+        }
+        Kind::Basic => {
+            let read = passing::read_basic_pass_through(message);
+            let basic = read.basic;
+            as_reading(read.number, Message::Basic(basic))
+        }
+        Kind::Long => {
+            let read = passing::read_long_pass_through(message);
+            let long = read.long;
+            as_reading(read.number, Message::Long(long))
+        }
         Kind::Unknown => Reading::Refused(6),
+    }
+}
+
+fn as_reading(number: u8, message: Message) -> Reading
+    ensures { λ r. ⌜ r ≡ asReading number message ⌝ }
+{
+    if number == 0 {
+        Reading::Message(message)
+    } else {
+        Reading::Refused(number)
     }
 }
 

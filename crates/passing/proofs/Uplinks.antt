@@ -13,16 +13,14 @@ use Rattle.fields.specs.declared.Written.{Written}
 use Rattle.fields.specs.declared.Written.the-variants.{Refused as RefusedWriting}
 use Rattle.fields.specs.Reading.{reading}
 use Rattle.fields.specs.Writing.{Wrote}
-use Rattle.kinds.specs.declared.Message.{Message}
-use Rattle.kinds.specs.declared.Reading.{Reading}
-use Rattle.kinds.specs.declared.Reading.the-variants.{Message as Read}
 use Rattle.kinds.specs.declared.Uplink.{Uplink}
-use Rattle.passing.specs.Uplink.{goodUplink, uplinkBytes, readUplink, payloadOf, writingUplink, WroteUplink}
+use Rattle.kinds.specs.declared.UplinkRead.{UplinkRead}
+use Rattle.passing.specs.Uplink.{goodUplink, uplinkBytes, uplinkRead, payloadOf, writingUplink, WroteUplink}
 use Rattle.passing.specs.Claims.{UplinkWrittenRead, UplinkReadWritten}
 use Rattle.passing.proofs.Receptions.{kept, whole-drop}
 
 -- what is read as an uplink is as long as one
-pub sized : (m : List ℕ) {r : Reading} {x : Message} → r ≡ readUplink m → r ≡ Read x → length m ≡ 436
+pub sized : (m : List ℕ) {r : UplinkRead} → r ≡ uplinkRead m → r .number ≡ 0 → length m ≡ 436
 unfolding reading
 sized m e f = go (eqb (length m) 436) refl
   where
@@ -30,7 +28,7 @@ sized m e f = go (eqb (length m) 436) refl
     go true p = eqb-true (length m) 436 p
     go false p =
         let r = simp p at e in
-        let z : _≡_ {A = ℕ} 0 1 = cc in omega arith
+        let z : _≡_ {A = ℕ} 7 0 = cc in omega arith
 
 module _ (u : Uplink) (payload out : List ℕ) where
   pub other-size : (length payload ≡ 432 → ⊥) → WroteUplink u payload out (RefusedWriting 7) out

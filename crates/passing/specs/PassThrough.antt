@@ -7,6 +7,9 @@ use lib.ListN.{getD}
 use Rattle.fields.specs.Reading.{reading}
 use Rattle.kinds.specs.declared.Bytes8.{Bytes8}
 use Rattle.kinds.specs.declared.BasicPassThrough.{BasicPassThrough}
+use Rattle.kinds.specs.declared.BasicRead.{BasicRead}
+use Rattle.kinds.specs.declared.LongRead.{LongRead}
+use Rattle.kinds.specs.declared.Reception.the-variants.{Steps}
 use Rattle.kinds.specs.declared.LongPassThrough.{LongPassThrough}
 use Rattle.kinds.specs.declared.Message.the-variants as kind
 use Rattle.kinds.specs.declared.Reading.{Reading}
@@ -47,6 +50,16 @@ basicPayload p = eight (p .a) ++ (eight (p .b) ++ (p .e ∷ p .f ∷ []))
 abbrev pub basicPassThroughBytes : BasicPassThrough → List ℕ
 basicPassThroughBytes p = received 30 (p .reception) (basicPayload p)
 
+abbrev pub noBytes : Bytes8
+noBytes = record { 0 = 0; 1 = 0; 2 = 0; 3 = 0; 4 = 0; 5 = 0; 6 = 0; 7 = 0 }
+
+abbrev pub basicRefused : ℕ → BasicRead
+basicRefused k = record { number = k; basic = record { reception = Steps 0; a = noBytes; b = noBytes; e = 0; f = 0 } }
+
+-- 01's number with the value, and the same as a message of whatever kind
+abbrev pub basicRead : List ℕ → BasicRead
+basicRead = reading 22 basicPassThroughIn goodBasicPassThrough (λ p. record { number = 0; basic = p }) basicRefused
+
 abbrev pub readBasicPassThrough : List ℕ → Reading
 readBasicPassThrough = reading 22 basicPassThroughIn goodBasicPassThrough (λ p. Message (kind.Basic p)) Refused
 
@@ -69,6 +82,15 @@ longPayload p = eight (p .a) ++ (eight (p .b) ++ (eight (p .c) ++ (eight (p .d) 
 
 abbrev pub longPassThroughBytes : LongPassThrough → List ℕ
 longPassThroughBytes p = received 31 (p .reception) (longPayload p)
+
+abbrev pub longRefused : ℕ → LongRead
+longRefused k = record {
+  number = k;
+  long = record { reception = Steps 0; a = noBytes; b = noBytes; c = noBytes; d = noBytes; e = 0; f = 0 };
+}
+
+abbrev pub longRead : List ℕ → LongRead
+longRead = reading 38 longPassThroughIn goodLongPassThrough (λ p. record { number = 0; long = p }) longRefused
 
 abbrev pub readLongPassThrough : List ℕ → Reading
 readLongPassThrough = reading 38 longPassThroughIn goodLongPassThrough (λ p. Message (kind.Long p)) Refused

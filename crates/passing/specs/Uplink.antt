@@ -2,7 +2,7 @@
 -- Assumes nothing.
 use mathlib.Core.Path.{_≡_}
 use Prim.Native.Nat.{ℕ}
-use mathlib.Core.Bool.{Bool, true, false, cond, _&&_}
+use mathlib.Core.Bool.{Bool, cond, _&&_}
 use mathlib.Core.List.{List, []}
 use lib.Dec.{eqb}
 use lib.ListN.{length, drop, getD}
@@ -11,7 +11,10 @@ use Rattle.fields.specs.Reading.{reading}
 use Rattle.fields.specs.declared.Written.{Written}
 use Rattle.fields.specs.declared.Written.the-variants.{Refused as RefusedWriting}
 use Rattle.fields.specs.Writing.{writing, output}
+use Rattle.kinds.specs.declared.Reception.{Reception}
+use Rattle.kinds.specs.declared.Reception.the-variants.{Steps}
 use Rattle.kinds.specs.declared.Uplink.{Uplink}
+use Rattle.kinds.specs.declared.UplinkRead.{UplinkRead}
 use Rattle.kinds.specs.declared.Message.the-variants as kind
 use Rattle.kinds.specs.declared.Reading.{Reading}
 use Rattle.kinds.specs.declared.Reading.the-variants.{Message, Refused}
@@ -26,16 +29,19 @@ goodUplink u = goodReception (u .reception)
 abbrev pub uplinkBytes : Uplink → List ℕ → List ℕ
 uplinkBytes u payload = received 7 (u .reception) payload
 
+abbrev pub uplinkAnswer : ℕ → Reception → UplinkRead
+uplinkAnswer k r = record { number = k; uplink = record { reception = r } }
+
+-- 01's number with the value, and the same as a message of whatever kind
+abbrev pub uplinkRead : List ℕ → UplinkRead
+uplinkRead = reading 436 uplinkIn goodUplink (λ u. record { number = 0; uplink = u }) (λ k. uplinkAnswer k (Steps 0))
+
 abbrev pub readUplink : List ℕ → Reading
 readUplink = reading 436 uplinkIn goodUplink (λ u. Message (kind.Uplink u)) Refused
 
-abbrev pub accepted : Reading → Bool
-accepted (Message x) = true
-accepted (Refused k) = false
-
 -- the message from its fifth byte on, where it is an uplink
 unfoldable pub payloadOf : List ℕ → List ℕ
-payloadOf m = cond (accepted (readUplink m) && eqb (getD m 0 0) 7) (drop 4 m) []
+payloadOf m = cond (eqb (uplinkRead m .number) 0 && eqb (getD m 0 0) 7) (drop 4 m) []
 
 -- 7 unless the payload has 432 bytes; then as every kind
 unfoldable pub writingUplink : Uplink → List ℕ → ℕ → Written

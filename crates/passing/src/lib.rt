@@ -5,63 +5,107 @@ ghost use Prim.Native.Nat.{_+_, _≤_};
 ghost use lib.ListN.{length};
 ghost use Rattle.fields.specs.Writing.{Wrote};
 ghost use Rattle.passing.specs.Reception.{receptionOf, receptionIn, goodReception, receptionNumber, received};
-ghost use Rattle.passing.specs.PassThrough.{eightAt, eight, basicPassThroughIn, goodBasicPassThrough, basicPassThroughBytes, readBasicPassThrough};
-ghost use Rattle.passing.specs.PassThrough.{longPassThroughIn, goodLongPassThrough, longPassThroughBytes, readLongPassThrough};
-ghost use Rattle.passing.specs.Uplink.{readUplink, payloadOf, WroteUplink};
+ghost use Rattle.passing.specs.PassThrough.{eightAt, eight, basicPassThroughIn, goodBasicPassThrough, basicPassThroughBytes, basicRefused, basicRead};
+ghost use Rattle.passing.specs.PassThrough.{longPassThroughIn, goodLongPassThrough, longPassThroughBytes, longRefused, longRead};
+ghost use Rattle.passing.specs.Uplink.{uplinkAnswer, uplinkRead, payloadOf, WroteUplink};
 use kinds::BasicPassThrough;
+use kinds::BasicRead;
 use kinds::Bytes8;
 use kinds::LongPassThrough;
-use kinds::Message;
-use kinds::Reading;
+use kinds::LongRead;
 use kinds::Reception;
 use kinds::Uplink;
+use kinds::UplinkRead;
 
 // 001 §3.3.1: the last step of a second, and the mark of none.
 const LAST_STEP: u32 = 12499999;
 
 const NO_STEP: u32 = 0xFFFFFF;
 
-pub fn read_basic_pass_through(message: &[u8]) -> Reading
-    ensures { λ r. ⌜ r ≡ readBasicPassThrough (now (message .entry)) ⌝ }
+pub fn read_basic_pass_through(message: &[u8]) -> BasicRead
+    ensures { λ r. ⌜ r ≡ basicRead (now (message .entry)) ⌝ }
 {
     if message.len() != BasicPassThrough::LENGTH {
-        return Reading::Refused(7);
+        return basic_refused(7);
     }
     let basic = basic_in(message);
     let reception = basic.reception;
     if is_good_reception(reception) {
-        Reading::Message(Message::Basic(basic))
+        BasicRead { number: 0, basic }
     } else {
-        Reading::Refused(8)
+        basic_refused(8)
     }
 }
 
-pub fn read_long_pass_through(message: &[u8]) -> Reading
-    ensures { λ r. ⌜ r ≡ readLongPassThrough (now (message .entry)) ⌝ }
+fn basic_refused(number: u8) -> BasicRead
+    ensures { λ r. ⌜ r ≡ basicRefused number ⌝ }
+{
+    let reception = Reception::Steps(0);
+    BasicRead {
+        number,
+        basic: BasicPassThrough {
+            reception,
+            a: Bytes8(0, 0, 0, 0, 0, 0, 0, 0),
+            b: Bytes8(0, 0, 0, 0, 0, 0, 0, 0),
+            e: 0,
+            f: 0,
+        },
+    }
+}
+
+pub fn read_long_pass_through(message: &[u8]) -> LongRead
+    ensures { λ r. ⌜ r ≡ longRead (now (message .entry)) ⌝ }
 {
     if message.len() != LongPassThrough::LENGTH {
-        return Reading::Refused(7);
+        return long_refused(7);
     }
     let long = long_in(message);
     let reception = long.reception;
     if is_good_reception(reception) {
-        Reading::Message(Message::Long(long))
+        LongRead { number: 0, long }
     } else {
-        Reading::Refused(8)
+        long_refused(8)
     }
 }
 
-pub fn read_uplink(message: &[u8]) -> Reading
-    ensures { λ r. ⌜ r ≡ readUplink (now (message .entry)) ⌝ }
+fn long_refused(number: u8) -> LongRead
+    ensures { λ r. ⌜ r ≡ longRefused number ⌝ }
+{
+    let reception = Reception::Steps(0);
+    LongRead {
+        number,
+        long: LongPassThrough {
+            reception,
+            a: Bytes8(0, 0, 0, 0, 0, 0, 0, 0),
+            b: Bytes8(0, 0, 0, 0, 0, 0, 0, 0),
+            c: Bytes8(0, 0, 0, 0, 0, 0, 0, 0),
+            d: Bytes8(0, 0, 0, 0, 0, 0, 0, 0),
+            e: 0,
+            f: 0,
+        },
+    }
+}
+
+pub fn read_uplink(message: &[u8]) -> UplinkRead
+    ensures { λ r. ⌜ r ≡ uplinkRead (now (message .entry)) ⌝ }
 {
     if message.len() != Uplink::LENGTH {
-        return Reading::Refused(7);
+        return uplink_answer(7, Reception::Steps(0));
     }
     let reception = reception_in(message);
     if is_good_reception(reception) {
-        Reading::Message(Message::Uplink(Uplink { reception }))
+        uplink_answer(0, reception)
     } else {
-        Reading::Refused(8)
+        uplink_answer(8, Reception::Steps(0))
+    }
+}
+
+fn uplink_answer(number: u8, reception: Reception) -> UplinkRead
+    ensures { λ r. ⌜ r ≡ uplinkAnswer number reception ⌝ }
+{
+    UplinkRead {
+        number,
+        uplink: Uplink { reception },
     }
 }
 
@@ -69,9 +113,10 @@ pub fn read_uplink(message: &[u8]) -> Reading
 pub fn payload<'a>(message: &'a [u8]) -> &'a [u8]
     ensures { λ r. ⌜ now r ≡ payloadOf (now (message .entry)) ⌝ }
 {
-    let Reading::Message(_) = read_uplink(message) else {
+    let read = read_uplink(message);
+    if read.number != 0 {
         return &message[0..0];
-    };
+    }
     if message[0] != Uplink::ID {
         return &message[0..0];
     }

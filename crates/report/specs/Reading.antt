@@ -1,7 +1,7 @@
 -- Which reports are good, in both directions, and what reading answers (01).
 -- Assumes nothing.
 use Prim.Native.Nat.{ℕ}
-use mathlib.Core.Bool.{Bool, Bool·beq, cond, _&&_}
+use mathlib.Core.Bool.{Bool, false, Bool·beq, cond, _&&_}
 use mathlib.Core.List.{List}
 use lib.Dec.{eqb, ltb}
 use lib.IntN.{ℤ, pos, negsuc}
@@ -11,7 +11,13 @@ use Rattle.numbers.specs.Signed.{fieldOf}
 use Rattle.report.specs.Marks.{noneMark, isNone, placeOf, stepsOr, knotsOr, climbOr}
 use Rattle.report.specs.Bytes.{reportIn}
 use Rattle.kinds.specs.declared.Position.{Position}
+use Rattle.kinds.specs.declared.Position.the-variants.{At}
+use Rattle.kinds.specs.declared.Altitude.the-variants.{Known}
+use Rattle.kinds.specs.declared.TrackKind.the-variants.{NotValid}
+use Rattle.kinds.specs.declared.Speed.the-variants.{Knots}
+use Rattle.kinds.specs.declared.Climb.the-variants.{Steps}
 use Rattle.kinds.specs.declared.Report.{Report}
+use Rattle.kinds.specs.declared.ReportRead.{ReportRead}
 use Rattle.kinds.specs.declared.Message.{Message}
 use Rattle.kinds.specs.declared.Message.the-variants.{Ownship, Traffic}
 use Rattle.kinds.specs.declared.Reading.{Reading}
@@ -46,6 +52,34 @@ goodReport r =
     && ltb (knotsOr (r .speed) 0 0) 0xFFE
     && between (negsuc 508) (pos 509) (climbOr (r .climb) (pos 0) (pos 0) (pos 0))
     && withinBits r
+
+abbrev pub reportRefused : ℕ → ReportRead
+reportRefused k = record {
+  number = k;
+  report = record {
+    alert = 0;
+    «address_type» = 0;
+    address = 0;
+    position = At (pos 0) (pos 0);
+    altitude = Known (record { steps = 0 });
+    «track_kind» = NotValid;
+    extrapolated = false;
+    airborne = false;
+    integrity = 0;
+    accuracy = 0;
+    speed = Knots 0;
+    climb = Steps (pos 0);
+    track = 0;
+    emitter = 0;
+    «call_sign» = record { 0 = 0; 1 = 0; 2 = 0; 3 = 0; 4 = 0; 5 = 0; 6 = 0; 7 = 0 };
+    priority = 0;
+    spare = 0;
+  };
+}
+
+-- 01's number with the value, and the same as a message of whatever kind
+abbrev pub reportRead : List ℕ → ReportRead
+reportRead = reading 28 reportIn goodReport (λ r. record { number = 0; report = r }) reportRefused
 
 -- the id says whose report it is: 10, the ownship's
 unfoldable pub carriedBy : ℕ → Report → Message

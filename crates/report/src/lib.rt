@@ -6,44 +6,60 @@ ghost use Rattle.fields.specs.Writing.{Wrote};
 ghost use Rattle.numbers.specs.Signed.{signedIn, fieldOf};
 ghost use Rattle.report.specs.Marks.{stepsOr, knotsOr, climbOr, placeOf, isNone, noneMark, kindNumber, bit, altitudeOf, speedOf, climbOf, positionOf, kindOf};
 ghost use Rattle.report.specs.Bytes.{three, threeAt, twelveHigh, highAt, twelveLow, lowAt, callSignIn, codesIn, codesOf, reportIn, packed, reportBytes};
-ghost use Rattle.report.specs.Reading.{between, goodPosition, withinBits, goodReport, carriedBy, readReport};
+ghost use Rattle.report.specs.Reading.{between, goodPosition, withinBits, goodReport, reportRefused, reportRead};
 use fields::Written;
 use kinds::Altitude;
 use kinds::Bytes8;
 use kinds::Climb;
-use kinds::Message;
-use kinds::Ownship;
 use kinds::Position;
-use kinds::Reading;
 use kinds::Report;
+use kinds::ReportRead;
 use kinds::Speed;
 use kinds::TrackKind;
 use kinds::Traffic;
 use units::PressureSteps;
 
-// A report of either id: the id says whose.
-pub fn read_report(id: u8, message: &[u8]) -> Reading
-    ensures { λ r. ⌜ r ≡ readReport id (now (message .entry)) ⌝ }
+// A report of either id.
+pub fn read_report(message: &[u8]) -> ReportRead
+    ensures { λ r. ⌜ r ≡ reportRead (now (message .entry)) ⌝ }
 {
     if message.len() != Traffic::LENGTH {
-        return Reading::Refused(7);
+        return report_refused(7);
     }
     let report = report_in(message);
     if is_good_report(report) {
-        Reading::Message(carried(id, report))
+        ReportRead { number: 0, report }
     } else {
-        Reading::Refused(8)
+        report_refused(8)
     }
 }
 
-fn carried(id: u8, report: Report) -> Message
-    ensures { λ r. ⌜ r ≡ carriedBy id report ⌝ }
+fn report_refused(number: u8) -> ReportRead
+    ensures { λ r. ⌜ r ≡ reportRefused number ⌝ }
 {
-    if id == Ownship::ID {
-        Message::Ownship(Ownship { report })
-    } else {
-        Message::Traffic(Traffic { report })
-    }
+    let report = Report {
+        alert: 0,
+        address_type: 0,
+        address: 0,
+        position: Position::At {
+            latitude: 0,
+            longitude: 0,
+        },
+        altitude: Altitude::Known(PressureSteps { steps: 0 }),
+        track_kind: TrackKind::NotValid,
+        extrapolated: false,
+        airborne: false,
+        integrity: 0,
+        accuracy: 0,
+        speed: Speed::Knots(0),
+        climb: Climb::Steps(0),
+        track: 0,
+        emitter: 0,
+        call_sign: Bytes8(0, 0, 0, 0, 0, 0, 0, 0),
+        priority: 0,
+        spare: 0,
+    };
+    ReportRead { number, report }
 }
 
 // The report with this id.

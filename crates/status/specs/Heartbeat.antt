@@ -7,6 +7,7 @@ use lib.Dec.{ltb, leb}
 use lib.ListN.{getD}
 use Rattle.fields.specs.Reading.{reading}
 use Rattle.kinds.specs.declared.Heartbeat.{Heartbeat}
+use Rattle.kinds.specs.declared.HeartbeatRead.{HeartbeatRead}
 use Rattle.kinds.specs.declared.Message.the-variants as kind
 use Rattle.kinds.specs.declared.Reading.{Reading}
 use Rattle.kinds.specs.declared.Reading.the-variants.{Message, Refused}
@@ -51,6 +52,16 @@ heartbeatBytes h =
     ∷ (h .uplinks * 8 + h .reserved * 4 + h .«basic_and_long» / 256)
     ∷ (h .«basic_and_long» % 256)
     ∷ []
+
+abbrev pub heartbeatRefused : ℕ → HeartbeatRead
+heartbeatRefused k = record {
+  number = k;
+  heartbeat = record { status1 = 0; status2 = 0; time = 0; uplinks = 0; reserved = 0; «basic_and_long» = 0 };
+}
+
+-- 01's number with the value, and the same as a message of whatever kind
+abbrev pub heartbeatRead : List ℕ → HeartbeatRead
+heartbeatRead = reading 7 heartbeatIn goodHeartbeat (λ h. record { number = 0; heartbeat = h }) heartbeatRefused
 
 abbrev pub readHeartbeat : List ℕ → Reading
 readHeartbeat = reading 7 heartbeatIn goodHeartbeat (λ h. Message (kind.Heartbeat h)) Refused

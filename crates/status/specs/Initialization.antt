@@ -6,6 +6,7 @@ use mathlib.Core.List.{List, [], _∷_}
 use lib.ListN.{getD}
 use Rattle.fields.specs.Reading.{reading}
 use Rattle.kinds.specs.declared.Initialization.{Initialization}
+use Rattle.kinds.specs.declared.InitializationRead.{InitializationRead}
 use Rattle.kinds.specs.declared.Message.the-variants as kind
 use Rattle.kinds.specs.declared.Reading.{Reading}
 use Rattle.kinds.specs.declared.Reading.the-variants.{Message, Refused}
@@ -20,6 +21,13 @@ goodInitialization i = true
 
 abbrev pub initializationBytes : Initialization → List ℕ
 initializationBytes i = 2 ∷ i .first ∷ i .second ∷ []
+
+abbrev pub initializationAnswer : ℕ → ℕ → ℕ → InitializationRead
+initializationAnswer k first second = record { number = k; initialization = record { first = first; second = second } }
+
+abbrev pub initializationRead : List ℕ → InitializationRead
+initializationRead =
+    reading 3 initializationIn goodInitialization (λ i. record { number = 0; initialization = i }) (λ k. initializationAnswer k 0 0)
 
 abbrev pub readInitialization : List ℕ → Reading
 readInitialization = reading 3 initializationIn goodInitialization (λ i. Message (kind.Initialization i)) Refused

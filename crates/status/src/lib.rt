@@ -2,27 +2,46 @@
 ghost use mathlib.Core.Path.{_≡_};
 ghost use lib.ListN.{length};
 ghost use Rattle.fields.specs.Writing.{Wrote};
-ghost use Rattle.status.specs.Heartbeat.{timeOf, countOf, heartbeatIn, goodHeartbeat, heartbeatBytes, readHeartbeat, HeartbeatBits};
-ghost use Rattle.status.specs.Initialization.{goodInitialization, initializationBytes, readInitialization};
+ghost use Rattle.status.specs.Heartbeat.{timeOf, countOf, heartbeatIn, goodHeartbeat, heartbeatBytes, heartbeatRefused, heartbeatRead, HeartbeatBits};
+ghost use Rattle.status.specs.Initialization.{goodInitialization, initializationBytes, initializationAnswer, initializationRead};
 use kinds::Heartbeat;
+use kinds::HeartbeatRead;
 use kinds::Initialization;
-use kinds::Message;
-use kinds::Reading;
+use kinds::InitializationRead;
 
 // The last second of a day (01).
 const LAST_SECOND: u32 = 86399;
 
-pub fn read_heartbeat(message: &[u8]) -> Reading
-    ensures { λ r. ⌜ r ≡ readHeartbeat (now (message .entry)) ⌝ }
+pub fn read_heartbeat(message: &[u8]) -> HeartbeatRead
+    ensures { λ r. ⌜ r ≡ heartbeatRead (now (message .entry)) ⌝ }
 {
     if message.len() != Heartbeat::LENGTH {
-        return Reading::Refused(7);
+        return heartbeat_refused(7);
     }
     let heartbeat = heartbeat_in(message);
     if is_good_heartbeat(heartbeat) {
-        Reading::Message(Message::Heartbeat(heartbeat))
+        HeartbeatRead {
+            number: 0,
+            heartbeat,
+        }
     } else {
-        Reading::Refused(8)
+        heartbeat_refused(8)
+    }
+}
+
+fn heartbeat_refused(number: u8) -> HeartbeatRead
+    ensures { λ r. ⌜ r ≡ heartbeatRefused number ⌝ }
+{
+    HeartbeatRead {
+        number,
+        heartbeat: Heartbeat {
+            status1: 0,
+            status2: 0,
+            time: 0,
+            uplinks: 0,
+            reserved: 0,
+            basic_and_long: 0,
+        },
     }
 }
 
@@ -90,16 +109,22 @@ fn heartbeat_bytes(heartbeat: Heartbeat) -> [u8; 7]
     ]
 }
 
-pub fn read_initialization(message: &[u8]) -> Reading
-    ensures { λ r. ⌜ r ≡ readInitialization (now (message .entry)) ⌝ }
+pub fn read_initialization(message: &[u8]) -> InitializationRead
+    ensures { λ r. ⌜ r ≡ initializationRead (now (message .entry)) ⌝ }
 {
     if message.len() != Initialization::LENGTH {
-        return Reading::Refused(7);
+        return initialization_answer(7, 0, 0);
     }
-    Reading::Message(Message::Initialization(Initialization {
-        first: message[1],
-        second: message[2],
-    }))
+    initialization_answer(0, message[1], message[2])
+}
+
+fn initialization_answer(number: u8, first: u8, second: u8) -> InitializationRead
+    ensures { λ r. ⌜ r ≡ initializationAnswer number first second ⌝ }
+{
+    InitializationRead {
+        number,
+        initialization: Initialization { first, second },
+    }
 }
 
 pub fn write_initialization(initialization: Initialization, out: &mut [u8]) -> fields::Written

@@ -6,9 +6,12 @@ use Rattle.fields.specs.Reading.{reading}
 use Rattle.altitudes.proofs.read_geometric.Statement.{statement}
 use Rattle.altitudes.proofs.read_geometric.Tie as tie
 
+geometric-refused-requires : tie.Need-geometric-refused-requires
+geometric-refused-requires c κs = search needs
+
 returns : tie.Need-returns
 unfolding reading
-returns c = simp (ne-eqb _ 5 (c .if1 .taken))
+returns c = simp (c .geometric-refused .ensures, ne-eqb _ 5 (c .before .if1 .taken))
 
 geometric-in-requires : tie.Need-geometric-in-requires
 geometric-in-requires c κs = search needs
@@ -16,14 +19,20 @@ geometric-in-requires c κs = search needs
 is-good-merit-requires : tie.Need-is-good-merit-requires
 is-good-merit-requires c κs = search needs
 
+geometric-refused-requires-2 : tie.Need-geometric-refused-requires-2
+geometric-refused-requires-2 c κs = search needs
+
 returns-2 : tie.Need-returns-2
 unfolding reading
 returns-2 c = simp (eq-eqb _ 5 (c .before .before .before .if1 .left), ← c .before .before .geometric-in .ensures, ← c .before .is-good-merit .ensures, c .if2 .taken)
 
 returns-3 : tie.Need-returns-3
 unfolding reading
-returns-3 c = simp (eq-eqb _ 5 (c .before .before .before .if1 .left), ← c .before .before .geometric-in .ensures, ← c .before .is-good-merit .ensures, c .if2 .left)
+returns-3 c =
+    let r = c .before .before .before in
+    simp (c .geometric-refused2 .ensures, eq-eqb _ 5 (r .before .if1 .left), ← r .geometric-in .ensures, ← c .before .before .is-good-merit .ensures, c .before .if2 .left)
 
 pub read-geometric-spec : {M : Type 1} → statement M
 read-geometric-spec =
-    tie.close (tie.spec returns geometric-in-requires is-good-merit-requires returns-2 returns-3)
+    tie.close
+    (tie.spec geometric-refused-requires returns geometric-in-requires is-good-merit-requires geometric-refused-requires-2 returns-2 returns-3)

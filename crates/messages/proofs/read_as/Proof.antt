@@ -1,5 +1,18 @@
 -- `messages::read_as` meets its contract, by the kind.
 -- Assumes nothing.
+use mathlib.Core.Path.{refl, _∙_}
+use Rattle.fields.proofs.Outcomes.{made}
+use Rattle.kinds.specs.declared.BasicRead.{BasicRead}
+use Rattle.kinds.specs.declared.GeometricRead.{GeometricRead}
+use Rattle.kinds.specs.declared.HeartbeatRead.{HeartbeatRead}
+use Rattle.kinds.specs.declared.HeightRead.{HeightRead}
+use Rattle.kinds.specs.declared.InitializationRead.{InitializationRead}
+use Rattle.kinds.specs.declared.LongRead.{LongRead}
+use Rattle.kinds.specs.declared.ReportRead.{ReportRead}
+use Rattle.kinds.specs.declared.UplinkRead.{UplinkRead}
+use Rattle.kinds.specs.declared.Message.the-variants as kind
+use Rattle.report.specs.Reading.{carriedBy}
+use Rattle.messages.specs.Message.{asReading}
 use Rattle.messages.proofs.Dispatch.{of-kind}
 use borrow.Author.Needs.{needs}
 use Rattle.messages.proofs.read_as.Statement.{statement}
@@ -11,11 +24,17 @@ enum-told c = search needs
 read-heartbeat-requires : tie.Need-read-heartbeat-requires
 read-heartbeat-requires c κs = search needs
 
+as-reading-requires : tie.Need-as-reading-requires
+as-reading-requires c κs = search needs
+
 enum-told-2 : tie.Need-enum-told-2
 enum-told-2 c = search needs
 
 read-initialization-requires : tie.Need-read-initialization-requires
 read-initialization-requires c κs = search needs
+
+as-reading-requires-2 : tie.Need-as-reading-requires-2
+as-reading-requires-2 c κs = search needs
 
 enum-told-3 : tie.Need-enum-told-3
 enum-told-3 c = search needs
@@ -23,11 +42,17 @@ enum-told-3 c = search needs
 read-uplink-requires : tie.Need-read-uplink-requires
 read-uplink-requires c κs = search needs
 
+as-reading-requires-3 : tie.Need-as-reading-requires-3
+as-reading-requires-3 c κs = search needs
+
 enum-told-4 : tie.Need-enum-told-4
 enum-told-4 c = search needs
 
 read-height-requires : tie.Need-read-height-requires
 read-height-requires c κs = search needs
+
+as-reading-requires-4 : tie.Need-as-reading-requires-4
+as-reading-requires-4 c κs = search needs
 
 enum-told-5 : tie.Need-enum-told-5
 enum-told-5 c = search needs
@@ -35,11 +60,17 @@ enum-told-5 c = search needs
 read-report-requires : tie.Need-read-report-requires
 read-report-requires c κs = search needs
 
+as-reading-requires-5 : tie.Need-as-reading-requires-5
+as-reading-requires-5 c κs = search needs
+
 enum-told-6 : tie.Need-enum-told-6
 enum-told-6 c = search needs
 
 read-geometric-requires : tie.Need-read-geometric-requires
 read-geometric-requires c κs = search needs
+
+as-reading-requires-6 : tie.Need-as-reading-requires-6
+as-reading-requires-6 c κs = search needs
 
 enum-told-7 : tie.Need-enum-told-7
 enum-told-7 c = search needs
@@ -47,11 +78,17 @@ enum-told-7 c = search needs
 read-report-requires-2 : tie.Need-read-report-requires-2
 read-report-requires-2 c κs = search needs
 
+as-reading-requires-7 : tie.Need-as-reading-requires-7
+as-reading-requires-7 c κs = search needs
+
 enum-told-8 : tie.Need-enum-told-8
 enum-told-8 c = search needs
 
 read-basic-pass-through-requires : tie.Need-read-basic-pass-through-requires
 read-basic-pass-through-requires c κs = search needs
+
+as-reading-requires-8 : tie.Need-as-reading-requires-8
+as-reading-requires-8 c κs = search needs
 
 enum-told-9 : tie.Need-enum-told-9
 enum-told-9 c = search needs
@@ -59,35 +96,58 @@ enum-told-9 c = search needs
 read-long-pass-through-requires : tie.Need-read-long-pass-through-requires
 read-long-pass-through-requires c κs = search needs
 
+as-reading-requires-9 : tie.Need-as-reading-requires-9
+as-reading-requires-9 c κs = search needs
+
 enum-told-10 : tie.Need-enum-told-10
 enum-told-10 c = search needs
 
 returns : tie.Need-returns
-returns c = of-kind _ (c .before .enum-told .given .1) (c .read-heartbeat .ensures)
+returns c =
+    let r = c .before .before in
+    of-kind _ (r .before .enum-told .given .1) (c .as-reading .ensures ∙ made _ _ _ _ _ _ _ _ (λ (a : HeartbeatRead). asReading (a .number) (kind.Heartbeat (a .heartbeat))) (r .read-heartbeat .ensures) (λ x. refl) refl refl)
 
 returns-2 : tie.Need-returns-2
-returns-2 c = of-kind _ (c .before .enum-told2 .given .1) (c .read-initialization .ensures)
+returns-2 c =
+    let r = c .before .before in
+    of-kind _ (r .before .enum-told2 .given .1) (c .as-reading2 .ensures ∙ made _ _ _ _ _ _ _ _ (λ (a : InitializationRead). asReading (a .number) (kind.Initialization (a .initialization))) (r .read-initialization .ensures) (λ x. refl) refl refl)
 
 returns-3 : tie.Need-returns-3
-returns-3 c = of-kind _ (c .before .enum-told3 .given .1) (c .read-uplink .ensures)
+returns-3 c =
+    let r = c .before .before in
+    of-kind _ (r .before .enum-told3 .given .1) (c .as-reading3 .ensures ∙ made _ _ _ _ _ _ _ _ (λ (a : UplinkRead). asReading (a .number) (kind.Uplink (a .uplink))) (r .read-uplink .ensures) (λ x. refl) refl refl)
 
 returns-4 : tie.Need-returns-4
-returns-4 c = of-kind _ (c .before .enum-told4 .given .1) (c .read-height .ensures)
+returns-4 c =
+    let r = c .before .before in
+    of-kind _ (r .before .enum-told4 .given .1) (c .as-reading4 .ensures ∙ made _ _ _ _ _ _ _ _ (λ (a : HeightRead). asReading (a .number) (kind.Height (a .height))) (r .read-height .ensures) (λ x. refl) refl refl)
 
 returns-5 : tie.Need-returns-5
-returns-5 c = of-kind _ (c .before .enum-told5 .given .1) (c .read-report .ensures)
+unfolding carriedBy
+returns-5 c =
+    let r = c .before .before in
+    of-kind _ (r .before .enum-told5 .given .1) (c .as-reading5 .ensures ∙ made _ _ _ _ _ _ _ _ (λ (a : ReportRead). asReading (a .number) (kind.Ownship (record { report = a .report }))) (r .read-report .ensures) (λ x. refl) refl refl)
 
 returns-6 : tie.Need-returns-6
-returns-6 c = of-kind _ (c .before .enum-told6 .given .1) (c .read-geometric .ensures)
+returns-6 c =
+    let r = c .before .before in
+    of-kind _ (r .before .enum-told6 .given .1) (c .as-reading6 .ensures ∙ made _ _ _ _ _ _ _ _ (λ (a : GeometricRead). asReading (a .number) (kind.Geometric (a .geometric))) (r .read-geometric .ensures) (λ x. refl) refl refl)
 
 returns-7 : tie.Need-returns-7
-returns-7 c = of-kind _ (c .before .enum-told7 .given .1) (c .read-report2 .ensures)
+unfolding carriedBy
+returns-7 c =
+    let r = c .before .before in
+    of-kind _ (r .before .enum-told7 .given .1) (c .as-reading7 .ensures ∙ made _ _ _ _ _ _ _ _ (λ (a : ReportRead). asReading (a .number) (kind.Traffic (record { report = a .report }))) (r .read-report2 .ensures) (λ x. refl) refl refl)
 
 returns-8 : tie.Need-returns-8
-returns-8 c = of-kind _ (c .before .enum-told8 .given .1) (c .read-basic-pass-through .ensures)
+returns-8 c =
+    let r = c .before .before in
+    of-kind _ (r .before .enum-told8 .given .1) (c .as-reading8 .ensures ∙ made _ _ _ _ _ _ _ _ (λ (a : BasicRead). asReading (a .number) (kind.Basic (a .basic))) (r .read-basic-pass-through .ensures) (λ x. refl) refl refl)
 
 returns-9 : tie.Need-returns-9
-returns-9 c = of-kind _ (c .before .enum-told9 .given .1) (c .read-long-pass-through .ensures)
+returns-9 c =
+    let r = c .before .before in
+    of-kind _ (r .before .enum-told9 .given .1) (c .as-reading9 .ensures ∙ made _ _ _ _ _ _ _ _ (λ (a : LongRead). asReading (a .number) (kind.Long (a .long))) (r .read-long-pass-through .ensures) (λ x. refl) refl refl)
 
 returns-10 : tie.Need-returns-10
 returns-10 c = search needs
@@ -98,22 +158,31 @@ read-as-spec =
     (tie.spec
     enum-told
     read-heartbeat-requires
+    as-reading-requires
     enum-told-2
     read-initialization-requires
+    as-reading-requires-2
     enum-told-3
     read-uplink-requires
+    as-reading-requires-3
     enum-told-4
     read-height-requires
+    as-reading-requires-4
     enum-told-5
     read-report-requires
+    as-reading-requires-5
     enum-told-6
     read-geometric-requires
+    as-reading-requires-6
     enum-told-7
     read-report-requires-2
+    as-reading-requires-7
     enum-told-8
     read-basic-pass-through-requires
+    as-reading-requires-8
     enum-told-9
     read-long-pass-through-requires
+    as-reading-requires-9
     enum-told-10
     returns
     returns-2

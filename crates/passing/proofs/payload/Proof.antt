@@ -15,12 +15,6 @@ use Rattle.passing.proofs.payload.Tie as tie
 read-uplink-requires : tie.Need-read-uplink-requires
 read-uplink-requires c κs = search needs
 
-enum-told : tie.Need-enum-told
-enum-told c = search needs
-
-enum-told-2 : tie.Need-enum-told-2
-enum-told-2 c = search needs
-
 sub-result : tie.Need-sub-result
 sub-result c = search needs
 
@@ -32,11 +26,11 @@ part-result-end c = search needs
 
 returns : tie.Need-returns
 unfolding payloadOf
-returns c = simp (← c .before .before .before .read-uplink .ensures, c .before .enum-told2 .given .1)
+returns c = simp (← c .before .before .before .read-uplink .ensures, ne-eqb _ 0 (c .before .if1 .taken))
 
-shared-slice-read-if1 : tie.Need-shared-slice-read-if1
-shared-slice-read-if1 c =
-    omega (arith, sized _ (c .before .before .before .read-uplink .ensures) (c .before .enum-told .given .1))
+shared-slice-read-if2 : tie.Need-shared-slice-read-if2
+shared-slice-read-if2 c =
+    omega (arith, sized _ (c .before .before .before .read-uplink .ensures) (c .before .if1 .left))
 
 sub-result-2 : tie.Need-sub-result-2
 sub-result-2 c = search needs
@@ -49,15 +43,15 @@ part-result-end-2 c = search needs
 
 returns-2 : tie.Need-returns-2
 unfolding payloadOf
-returns-2 c = simp (← c .before .before .before .before .before .read-uplink .ensures, c .before .before .before .enum-told .given .1, ne-eqb _ 7 (c .before .if1 .taken))
+returns-2 c = simp (← c .before .before .before .before .before .read-uplink .ensures, eq-eqb _ 0 (c .before .before .before .if1 .left), ne-eqb _ 7 (c .before .if2 .taken))
 
 sub-result-3 : tie.Need-sub-result-3
 sub-result-3 c =
-    omega (arith, sized _ (c .before .before .before .before .read-uplink .ensures) (c .before .before .enum-told .given .1))
+    omega (arith, sized _ (c .before .before .before .before .read-uplink .ensures) (c .before .before .if1 .left))
 
 part-result-start-3 : tie.Need-part-result-start-3
 part-result-start-3 c =
-    omega (arith, sized _ (c .before .before .before .before .read-uplink .ensures) (c .before .before .enum-told .given .1))
+    omega (arith, sized _ (c .before .before .before .before .read-uplink .ensures) (c .before .before .if1 .left))
 
 part-result-end-3 : tie.Need-part-result-end-3
 part-result-end-3 c = search needs
@@ -68,20 +62,18 @@ returns-3 c =
     let r = c .before .before .before .before .before in
     let m = r .before .before .args .message .now in
     take-all (length m - 4) (drop 4 m) (omega (arith, length-drop 4 m))
-    ∙ simp (← r .read-uplink .ensures, c .before .before .before .enum-told .given .1, eq-eqb _ 7 (c .before .if1 .left))
+    ∙ simp (← r .read-uplink .ensures, eq-eqb _ 0 (c .before .before .before .if1 .left), eq-eqb _ 7 (c .before .if2 .left))
 
 pub payload-spec : {M : Type 1} → statement M
 payload-spec =
     tie.close
     (tie.spec
     read-uplink-requires
-    enum-told
-    enum-told-2
     sub-result
     part-result-start
     part-result-end
     returns
-    shared-slice-read-if1
+    shared-slice-read-if2
     sub-result-2
     part-result-start-2
     part-result-end-2

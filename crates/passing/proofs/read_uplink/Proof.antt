@@ -1,14 +1,17 @@
 -- `passing::read_uplink` meets its contract.
 -- Assumes nothing.
 use borrow.Author.Needs.{needs}
-use Rattle.fields.specs.Reading.{reading}
 use borrow.Author.Tests.{eq-eqb, ne-eqb}
+use Rattle.fields.specs.Reading.{reading}
 use Rattle.passing.proofs.read_uplink.Statement.{statement}
 use Rattle.passing.proofs.read_uplink.Tie as tie
 
+uplink-answer-requires : tie.Need-uplink-answer-requires
+uplink-answer-requires c κs = search needs
+
 returns : tie.Need-returns
 unfolding reading
-returns c = simp (ne-eqb _ 436 (c .if1 .taken))
+returns c = simp (c .uplink-answer .ensures, ne-eqb _ 436 (c .before .if1 .taken))
 
 reception-in-requires : tie.Need-reception-in-requires
 reception-in-requires c κs = search needs
@@ -16,15 +19,25 @@ reception-in-requires c κs = search needs
 is-good-reception-requires : tie.Need-is-good-reception-requires
 is-good-reception-requires c κs = search needs
 
+uplink-answer-requires-2 : tie.Need-uplink-answer-requires-2
+uplink-answer-requires-2 c κs = search needs
+
+uplink-answer-requires-3 : tie.Need-uplink-answer-requires-3
+uplink-answer-requires-3 c κs = search needs
+
 returns-2 : tie.Need-returns-2
 unfolding reading
-returns-2 c = simp (eq-eqb _ 436 (c .before .before .before .if1 .left), ← c .before .before .reception-in .ensures, ← c .before .is-good-reception .ensures, c .if2 .taken)
+returns-2 c =
+    let r = c .before .before .before in
+    simp (c .uplink-answer2 .ensures, eq-eqb _ 436 (r .before .if1 .left), ← r .reception-in .ensures, ← c .before .before .is-good-reception .ensures, c .before .if2 .taken)
 
 returns-3 : tie.Need-returns-3
 unfolding reading
-returns-3 c = simp (eq-eqb _ 436 (c .before .before .before .if1 .left), ← c .before .before .reception-in .ensures, ← c .before .is-good-reception .ensures, c .if2 .left)
+returns-3 c =
+    let r = c .before .before .before in
+    simp (c .uplink-answer3 .ensures, eq-eqb _ 436 (r .before .if1 .left), ← r .reception-in .ensures, ← c .before .before .is-good-reception .ensures, c .before .if2 .left)
 
 pub read-uplink-spec : {M : Type 1} → statement M
 read-uplink-spec =
     tie.close
-    (tie.spec returns reception-in-requires is-good-reception-requires returns-2 returns-3)
+    (tie.spec uplink-answer-requires returns reception-in-requires is-good-reception-requires uplink-answer-requires-2 uplink-answer-requires-3 returns-2 returns-3)

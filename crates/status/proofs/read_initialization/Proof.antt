@@ -1,25 +1,38 @@
 -- `status::read_initialization` meets its contract.
 -- Assumes nothing.
 use borrow.Author.Needs.{needs}
-use Rattle.fields.specs.Reading.{reading}
 use borrow.Author.Tests.{eq-eqb, ne-eqb}
+use Rattle.fields.specs.Reading.{reading}
 use Rattle.status.proofs.read_initialization.Statement.{statement}
 use Rattle.status.proofs.read_initialization.Tie as tie
 
+initialization-answer-requires : tie.Need-initialization-answer-requires
+initialization-answer-requires c κs = search needs
+
 returns : tie.Need-returns
 unfolding reading
-returns c = simp (ne-eqb _ 3 (c .if1 .taken))
+returns c = simp (c .initialization-answer .ensures, ne-eqb _ 3 (c .before .if1 .taken))
 
-shared-slice-read-t5 : tie.Need-shared-slice-read-t5
-shared-slice-read-t5 c = search needs
+shared-slice-read-initialization-answer : tie.Need-shared-slice-read-initialization-answer
+shared-slice-read-initialization-answer c = search needs
 
-shared-slice-read-t7 : tie.Need-shared-slice-read-t7
-shared-slice-read-t7 c = search needs
+shared-slice-read-initialization-answer-2 : tie.Need-shared-slice-read-initialization-answer-2
+shared-slice-read-initialization-answer-2 c = search needs
+
+initialization-answer-requires-2 : tie.Need-initialization-answer-requires-2
+initialization-answer-requires-2 c κs = search needs
 
 returns-2 : tie.Need-returns-2
 unfolding reading
-returns-2 c = simp (eq-eqb _ 3 (c .before .before .if1 .left))
+returns-2 c = simp (c .initialization-answer2 .ensures, eq-eqb _ 3 (c .before .before .before .if1 .left))
 
 pub read-initialization-spec : {M : Type 1} → statement M
 read-initialization-spec =
-    tie.close (tie.spec returns shared-slice-read-t5 shared-slice-read-t7 returns-2)
+    tie.close
+    (tie.spec
+    initialization-answer-requires
+    returns
+    shared-slice-read-initialization-answer
+    shared-slice-read-initialization-answer-2
+    initialization-answer-requires-2
+    returns-2)
