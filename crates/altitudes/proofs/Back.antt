@@ -1,17 +1,16 @@
 -- Both directions of both kinds.
 -- Assumes nothing.
 use mathlib.Core.Path.{_≡_, refl, sym, ap, _∙_}
-use mathlib.Core.Bool.{Bool, true, false, cond, not, _&&_}
+use mathlib.Core.Bool.{Bool, true, false, cond, not}
 use Prim.Native.Nat.{ℕ, _+_, _*_, _/_, _%_, _<_}
 use mathlib.Core.List.{[], _∷_}
 use native.Mathlib.Omega.{arith}
 use lib.Dec.{eqb, ltb, leb}
-use lib.IntN.{ℤ, pos, negsuc}
 use lib.ListN.{getD}
-use lib.Signed.{mag}
-use borrow.Author.Tests.{ne-eqb, le-leb, lt-leb, eqb-true, ltb-true, leb-true, leb-false, not-true}
-use Rattle.numbers.specs.Signed.{signedIn, fieldOf}
+use borrow.Author.Tests.{ne-eqb, le-leb, lt-leb, ltb-true, leb-true, leb-false, not-true}
+use Rattle.numbers.specs.Signed.{fieldOf}
 use Rattle.numbers.proofs.Bytes.{byte-at, spread}
+use Rattle.numbers.proofs.Every.{both, chosen}
 use Rattle.numbers.proofs.Signed.{field-signed, signed-field}
 use Rattle.kinds.specs.declared.Height.{Height}
 use Rattle.kinds.specs.declared.Height.the-variants.{Feet, None}
@@ -26,11 +25,6 @@ use Rattle.altitudes.specs.Claims.{TypedHeight, TerrainWrittenRead, Terr
 joined : (n : ℕ) → 256 * (n / 256) + n % 256 ≡ n
 joined n = omega arith
 
-field-lt : (z : ℤ) → mag z < 0x8000 → fieldOf 0x8000 z < 0x10000
-unfolding fieldOf
-field-lt (pos n) h = omega arith
-field-lt (negsuc k) h = omega arith
-
 height-back : (h : Height) → TypedHeight h → goodHeight h ≡ true → heightOf (heightField h) ≡ h
 unfolding heightOf
 height-back (Feet f) t g =
@@ -40,11 +34,7 @@ height-back None t g = refl
 
 height-there : (n : ℕ) → n < 0x10000 → heightField (heightOf n) ≡ n
 unfolding heightOf
-height-there n h = go (eqb n 0x8000) refl
-  where
-    go : (t : Bool) → eqb n 0x8000 ≡ t → heightField (cond t None (Feet (record { feet = signedIn 0x8000 n }))) ≡ n
-    go true e = sym (eqb-true n 0x8000 e)
-    go false e = field-signed 0x8000 n (omega arith)
+height-there n h = chosen (λ x. heightField x ≡ n) n 0x8000 _ _ sym (field-signed 0x8000 n (omega arith))
 
 pub terrain-written-read : TerrainWrittenRead
 unfolding terrainIn terrainBytes
@@ -62,33 +52,24 @@ terrain-read-written m long bytes id =
     simp (height-there n (omega arith), high, low) (sym (spread 3 m long ∙ ap (λ (x : ℕ). x ∷ getD m 1 0 ∷ getD m 2 0 ∷ []) id))
 
 pub merit-lt : (m : Merit) → goodMerit m ≡ true → meritField m < 0x8000
-merit-lt (Metres n) g = go (ltb n 0x7FFF) refl g
-  where
-    go : (t : Bool) → ltb n 0x7FFF ≡ t → t && not (eqb n overMerit) ≡ true → n < 0x8000
-    go true e h = omega (arith, ltb-true n 0x7FFF e)
-    go false e h = let z : _≡_ {A = ℕ} 0 1 = cc in absurd (omega arith)
+merit-lt (Metres n) g = omega (arith, ltb-true n 0x7FFF (both (ltb n 0x7FFF) _ g .0))
 merit-lt Over g = omega arith
 merit-lt no-merit g = omega arith
 
 merit-back : (m : Merit) → goodMerit m ≡ true → meritOf (meritField m) ≡ m
 unfolding meritOf
-merit-back (Metres n) g = go (ltb n 0x7FFF) (eqb n overMerit) refl refl g
-  where
-    go : (t u : Bool) → ltb n 0x7FFF ≡ t → eqb n overMerit ≡ u → t && not u ≡ true → cond (eqb n 0x7FFF) no-merit (cond (eqb n overMerit) Over (Metres n)) ≡ Metres n
-    go true false e f h = simp (ne-eqb n 0x7FFF (λ q. omega (arith, ltb-true n 0x7FFF e)), f)
-    go true true e f h = let z : _≡_ {A = ℕ} 0 1 = cc in absurd (omega arith)
-    go false u e f h = let z : _≡_ {A = ℕ} 0 1 = cc in absurd (omega arith)
+merit-back (Metres n) g =
+    let b = both (ltb n 0x7FFF) (not (eqb n overMerit)) g in
+    simp (ne-eqb n 0x7FFF (λ q. omega (arith, ltb-true n 0x7FFF (b .0))), not-true (eqb n overMerit) (b .1))
 merit-back Over g = refl
 merit-back no-merit g = refl
 
 merit-there : (n : ℕ) → meritField (meritOf n) ≡ n
 unfolding meritOf
-merit-there n = go (eqb n 0x7FFF) (eqb n overMerit) refl refl
+merit-there n = chosen is n 0x7FFF _ _ sym (chosen is n overMerit _ _ sym refl)
   where
-    go : (t u : Bool) → eqb n 0x7FFF ≡ t → eqb n overMerit ≡ u → meritField (cond t no-merit (cond u Over (Metres n))) ≡ n
-    go true u e f = sym (eqb-true n 0x7FFF e)
-    go false true e f = sym (eqb-true n overMerit f)
-    go false false e f = refl
+    is : Merit → Type 0
+    is m = meritField m ≡ n
 
 -- the warning above 15 bits
 warned : (w : Bool) (n : ℕ) → n < 0x8000 → (leb 128 (cond w 128 0 + n / 256) ≡ w) × (256 * ((cond w 128 0 + n / 256) % 128) + n % 256 ≡ n)

@@ -9,6 +9,7 @@ use lib.Dec.{eqb}
 use lib.ListN.{length, drop, getD, length-drop}
 use borrow.Author.Tests.{eqb-true, eq-eqb, ne-eqb}
 use Rattle.numbers.specs.Bytes.{AreBytes}
+use Rattle.numbers.proofs.Every.{chosen}
 use Rattle.fields.specs.Reading.{reading}
 use Rattle.fields.proofs.Outcomes.{read-back, read-only}
 use Rattle.kinds.specs.declared.Message.{Message}
@@ -54,11 +55,7 @@ named id = test 0 _ _ same (test 2 _ _ same (test 7 _ _ same (test 9 _ _ same (t
     same e = e
 
     test : (n : ℕ) (k rest : Kind) → (id ≡ n → Named k id) → Named rest id → Named (cond (eqb id n) k rest) id
-    test n k rest y z = go (eqb id n) refl
-      where
-        go : (t : Bool) → eqb id n ≡ t → Named (cond t k rest) id
-        go true e = y (eqb-true id n e)
-        go false e = z
+    test = chosen (λ k. Named k id) id
 
 apart : {k : ℕ} {x : Message} → Refused k ≡ Accepted x → ⊥
 apart e = let z : _≡_ {A = ℕ} 0 1 = cc in omega arith

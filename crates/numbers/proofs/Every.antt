@@ -1,14 +1,24 @@
--- What tests show: two at once, and one that antt computes at each number below n.
+-- What tests show: two at once, one that chooses, and one that antt computes at each number below n.
 -- Assumes nothing.
 use mathlib.Core.Path.{_≡_, refl}
-use mathlib.Core.Bool.{Bool, true, false, _&&_}
+use mathlib.Core.Bool.{Bool, true, false, cond, _&&_}
 use Prim.Native.Nat.{ℕ, zero, suc, _<_}
 use native.Mathlib.Omega.{arith}
 use native.Mathlib.Nat.{not-suc-le-zero}
+use lib.Dec.{eqb}
+use borrow.Author.Tests.{eqb-true}
 
 pub both : (a b : Bool) → a && b ≡ true → (a ≡ true) × (b ≡ true)
 both true b e = (refl, e)
 both false b e = ((cc), (cc))
+
+-- what holds of a where n is k, and of b, holds of the one that the test chooses
+pub chosen : {X : Type 0} (P : X → Type 0) (n k : ℕ) (a b : X) → (n ≡ k → P a) → P b → P (cond (eqb n k) a b)
+chosen P n k a b y z = go (eqb n k) refl
+  where
+    go : (t : Bool) → eqb n k ≡ t → P (cond t a b)
+    go true e = y (eqb-true n k e)
+    go false e = z
 
 unfoldable pub every : (ℕ → Bool) → ℕ → Bool
 every f zero = true

@@ -1,15 +1,15 @@
 -- Laws of the time of reception, and of the messages that start with one.
 -- Assumes nothing.
 use mathlib.Core.Path.{_≡_, refl, sym, ap, _∙_}
-use mathlib.Core.Bool.{Bool, true, false, cond}
+use mathlib.Core.Bool.{true}
 use Prim.Native.Nat.{ℕ, suc, _+_, _*_, _/_, _%_, _<_}
 use mathlib.Core.List.{List}
 use native.Mathlib.Omega.{arith}
-use lib.Dec.{eqb}
 use lib.ListN.{length, drop, getD}
-use borrow.Author.Tests.{leb-true, eqb-true, ne-eqb}
+use borrow.Author.Tests.{leb-true, ne-eqb}
 use Rattle.numbers.specs.Bytes.{AreBytes}
 use Rattle.numbers.proofs.Bytes.{byte-at, spread, upTo}
+use Rattle.numbers.proofs.Every.{chosen}
 use Rattle.kinds.specs.declared.Reception.{Reception}
 use Rattle.kinds.specs.declared.Reception.the-variants.{Steps, None}
 use Rattle.passing.specs.Reception.{receptionOf, receptionIn, lastStep, goodReception, receptionNumber, received}
@@ -26,14 +26,9 @@ kept id None payload g = refl
 -- the number that three bytes say, none or not
 number-in : (low middle high : ℕ) → receptionNumber (receptionOf low middle high) ≡ high * 65536 + middle * 256 + low
 unfolding receptionOf
-number-in low middle high = go (eqb n 0xFFFFFF) refl
-  where
-    n : ℕ
-    n = high * 65536 + middle * 256 + low
-
-    go : (b : Bool) → eqb n 0xFFFFFF ≡ b → receptionNumber (cond b None (Steps n)) ≡ n
-    go true e = sym (eqb-true n 0xFFFFFF e)
-    go false e = refl
+number-in low middle high =
+    let n = high * 65536 + middle * 256 + low in
+    chosen (λ r. receptionNumber r ≡ n) n 0xFFFFFF _ _ sym refl
 
 -- three bytes, low first
 bytes-back : {l m h : ℕ} → l < 256 → m < 256 → h < 256 → ((h * 65536 + m * 256 + l) % 256 ≡ l) × ((h * 65536 + m * 256 + l) / 256 % 256 ≡ m) × ((h * 65536 + m * 256 + l) / 65536 % 256 ≡ h)

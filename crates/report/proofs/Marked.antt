@@ -8,7 +8,7 @@ use lib.Dec.{eqb, ltb, leb}
 use lib.IntN.{ℤ, pos, negsuc}
 use lib.Signed.{mag}
 use borrow.Author.Tests.{ne-eqb, ltb-true, eqb-true, leb-true}
-use Rattle.numbers.proofs.Every.{both, every, at}
+use Rattle.numbers.proofs.Every.{both, chosen, every, at}
 use Rattle.numbers.proofs.Signed.{field-signed, signed-field, field-fits}
 use Rattle.numbers.specs.Signed.{signedIn, fieldOf}
 use Rattle.report.specs.Marks.{noneMark, positionOf, isNone, placeOf, altitudeOf, stepsOr, kindOf, kindNumber, bit, speedOf, knotsOr, climbOf, climbOr}
@@ -33,11 +33,7 @@ sized a b half (negsuc n) e h k = omega (arith, leb-true n a (both (leb n a) tru
 
 pub altitude-code : (d : ℕ) → stepsOr (altitudeOf d) 0xFFF ≡ d
 unfolding altitudeOf
-altitude-code d = go (eqb d 0xFFF) refl
-  where
-    go : (b : Bool) → eqb d 0xFFF ≡ b → stepsOr (cond b no-altitude (Known (record { steps = d }))) 0xFFF ≡ d
-    go true e = sym (eqb-true d 0xFFF e)
-    go false e = refl
+altitude-code d = chosen (λ a. stepsOr a 0xFFF ≡ d) d 0xFFF _ _ sym refl
 
 pub altitude-back : (a : Altitude) → ltb (stepsOr a 0) 0xFFF ≡ true → (altitudeOf (stepsOr a 0xFFF) ≡ a) × (stepsOr a 0xFFF < 0x1000)
 unfolding altitudeOf
@@ -48,12 +44,10 @@ altitude-back no-altitude g = (refl, omega arith)
 
 pub speed-code : (h : ℕ) → knotsOr (speedOf h) 0xFFE 0xFFF ≡ h
 unfolding speedOf
-speed-code h = go (eqb h 0xFFF) (eqb h 0xFFE) refl refl
+speed-code h = chosen is h 0xFFF _ _ sym (chosen is h 0xFFE _ _ sym refl)
   where
-    go : (a b : Bool) → eqb h 0xFFF ≡ a → eqb h 0xFFE ≡ b → knotsOr (cond a no-speed (cond b Over (Knots h))) 0xFFE 0xFFF ≡ h
-    go true b p q = sym (eqb-true h 0xFFF p)
-    go false true p q = sym (eqb-true h 0xFFE q)
-    go false false p q = refl
+    is : Speed → Type 0
+    is s = knotsOr s 0xFFE 0xFFF ≡ h
 
 pub speed-back : (s : Speed) → ltb (knotsOr s 0 0) 0xFFE ≡ true → (speedOf (knotsOr s 0xFFE 0xFFF) ≡ s) × (knotsOr s 0xFFE 0xFFF < 0x1000)
 unfolding speedOf
@@ -70,13 +64,10 @@ climbCode v = fieldOf 0x800 (climbOr v (pos 510) (negsuc 509) (negsuc 2047))
 
 pub climb-code : (v : ℕ) → v < 0x1000 → climbCode (climbOf v) ≡ v
 unfolding climbOf fieldOf
-climb-code v h = go (eqb v 0x800) (eqb v 0x1FE) (eqb v 0xE02) refl refl refl
+climb-code v h = chosen is v 0x800 _ _ sym (chosen is v 0x1FE _ _ sym (chosen is v 0xE02 _ _ sym (field-signed 0x800 v (omega arith))))
   where
-    go : (a b c : Bool) → eqb v 0x800 ≡ a → eqb v 0x1FE ≡ b → eqb v 0xE02 ≡ c → climbCode (cond a no-climb (cond b Above (cond c Below (Steps (signedIn 0x800 v))))) ≡ v
-    go true b c p q r = sym (eqb-true v 0x800 p)
-    go false true c p q r = sym (eqb-true v 0x1FE q)
-    go false false true p q r = sym (eqb-true v 0xE02 r)
-    go false false false p q r = field-signed 0x800 v (omega arith)
+    is : Climb → Type 0
+    is c = climbCode c ≡ v
 
 -- steps within 509 are none of the three marks
 unmarked : (z : ℤ) → between (negsuc 508) (pos 509) z ≡ true → (fieldOf 0x800 z ≡ 0x800 → ⊥) × (fieldOf 0x800 z ≡ 0x1FE → ⊥) × (fieldOf 0x800 z ≡ 0xE02 → ⊥)
