@@ -9,7 +9,7 @@ use native.Mathlib.Numerals.{add-one}
 use lib.Dec.{eqb}
 use lib.ListN.{length, drop, getD, set, drop-of-length-le}
 use lib.Seq.{sets, drop-cons}
-use borrow.Author.Tests.{eq-eqb, eqb-true, le-leb, lt-leb}
+use borrow.Author.Tests.{eqb-true, le-leb, lt-leb}
 use Rattle.numbers.specs.Lent.{written}
 use Rattle.numbers.proofs.Storing.{from-first}
 use Rattle.fields.specs.declared.Written.{Written}
@@ -44,11 +44,6 @@ unfolding writing written
 refused good bytes out g = record { answers = simp g; leaves = refl }
 
 module _ {X R : Type 0} (size : ℕ) (value : List ℕ → X) (good : X → Bool) (accepted : X → R) (refusal : ℕ → R) (m : List ℕ) where
-  -- bytes that hold a good value are read as it
-  pub read-back : (x : X) → length m ≡ size → value m ≡ x → good x ≡ true → reading size value good accepted refusal m ≡ accepted x
-  unfolding reading
-  read-back x e h g = simp (eq-eqb (length m) size e, h, g)
-
   -- what is accepted has the size, and is the good value that the bytes hold
   pub read-only : (z : R) → ((k : ℕ) → refusal k ≡ z → ⊥) → reading size value good accepted refusal m ≡ z
       → (length m ≡ size) × (good (value m) ≡ true) × (accepted (value m) ≡ z)

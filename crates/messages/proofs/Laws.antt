@@ -1,6 +1,6 @@
 -- Demand 2 of 01 for messages, from the laws of each kind.
 -- Assumes nothing.
-use mathlib.Core.Path.{_≡_, refl, subst}
+use mathlib.Core.Path.{_≡_, refl, ap, _∙_, subst}
 use mathlib.Core.Bool.{Bool, true, false, cond}
 use Prim.Native.Nat.{ℕ}
 use mathlib.Core.List.{List}
@@ -11,17 +11,17 @@ use borrow.Author.Tests.{eqb-true, eq-eqb, ne-eqb}
 use Rattle.numbers.specs.Bytes.{AreBytes}
 use Rattle.numbers.proofs.Every.{chosen}
 use Rattle.fields.specs.Reading.{reading}
-use Rattle.fields.proofs.Outcomes.{read-back, read-only}
+use Rattle.fields.proofs.Outcomes.{read-only}
 use Rattle.kinds.specs.declared.Message.{Message}
 use Rattle.kinds.specs.declared.Message.the-variants.{Heartbeat, Initialization, Uplink, Height, Ownship, Geometric, Traffic, Basic, Long}
 use Rattle.kinds.specs.declared.Reading.{Reading}
 use Rattle.kinds.specs.declared.Reading.the-variants.{Message as Accepted, Refused}
-use Rattle.status.specs.Heartbeat.{heartbeatIn, goodHeartbeat, heartbeatBytes}
-use Rattle.status.specs.Initialization.{initializationIn, goodInitialization, initializationBytes}
+use Rattle.status.specs.Heartbeat.{heartbeatIn, goodHeartbeat}
+use Rattle.status.specs.Initialization.{initializationIn, goodInitialization}
 use Rattle.altitudes.specs.Height.{terrainIn, goodTerrain, terrainBytes}
 use Rattle.altitudes.specs.Geometric.{geometricIn, goodGeometric, geometricBytes}
 use Rattle.passing.specs.Uplink.{uplinkIn, goodUplink, uplinkBytes}
-use Rattle.passing.specs.PassThrough.{basicPassThroughIn, goodBasicPassThrough, basicPassThroughBytes, longPassThroughIn, goodLongPassThrough, longPassThroughBytes}
+use Rattle.passing.specs.PassThrough.{basicPassThroughIn, goodBasicPassThrough, longPassThroughIn, goodLongPassThrough}
 use Rattle.report.specs.Bytes.{reportIn, reportBytes}
 use Rattle.report.specs.Reading.{goodReport, carriedBy}
 use Rattle.status.proofs.Heartbeats as heartbeats
@@ -61,26 +61,20 @@ apart : {k : ℕ} {x : Message} → Refused k ≡ Accepted x → ⊥
 apart e = let z : _≡_ {A = ℕ} 0 1 = cc in omega arith
 
 pub written-read : WrittenRead
-unfolding readMessage terrainBytes geometricBytes reportBytes carriedBy
-written-read (Heartbeat h) payload t p g =
-    read-back 7 heartbeatIn goodHeartbeat (λ x. Accepted (Heartbeat x)) Refused (heartbeatBytes h) h refl (heartbeats.written-read h g) g
-written-read (Initialization i) payload t p g =
-    read-back 3 initializationIn goodInitialization (λ x. Accepted (Initialization x)) Refused (initializationBytes i) i refl (initializations.written-read i g) g
+unfolding reading readMessage terrainBytes geometricBytes reportBytes carriedBy
+written-read (Heartbeat h) payload t p g = simp (heartbeats.written-read h g, g)
+written-read (Initialization i) payload t p g = simp (initializations.written-read i g)
 written-read (Uplink u) payload t p g =
     let e = eqb-true (length payload) 432 p in
-    simp (ne-eqb (length (uplinkBytes u payload)) 0 (λ z. omega arith)) (read-back 436 uplinkIn goodUplink (λ x. Accepted (Uplink x)) Refused (uplinkBytes u payload) u (omega arith) (uplinks.written-read u payload g e .0) g)
-written-read (Height h) payload t p g =
-    read-back 3 terrainIn goodTerrain (λ x. Accepted (Height x)) Refused (terrainBytes h) h refl (altitudes.terrain-written-read h t g) g
-written-read (Ownship o) payload t p g =
-    read-back 28 reportIn goodReport (λ x. Accepted (carriedBy 10 x)) Refused (reportBytes 10 (o .report)) (o .report) refl (reports.written-read 10 (o .report) g) g
-written-read (Geometric a) payload t p g =
-    read-back 5 geometricIn goodGeometric (λ x. Accepted (Geometric x)) Refused (geometricBytes a) a refl (altitudes.geometric-written-read a t g) g
-written-read (Traffic o) payload t p g =
-    read-back 28 reportIn goodReport (λ x. Accepted (carriedBy 20 x)) Refused (reportBytes 20 (o .report)) (o .report) refl (reports.written-read 20 (o .report) g) g
-written-read (Basic b) payload t p g =
-    read-back 22 basicPassThroughIn goodBasicPassThrough (λ x. Accepted (Basic x)) Refused (basicPassThroughBytes b) b refl (pass-throughs.basic-written-read b g) g
-written-read (Long b) payload t p g =
-    read-back 38 longPassThroughIn goodLongPassThrough (λ x. Accepted (Long x)) Refused (longPassThroughBytes b) b refl (pass-throughs.long-written-read b g) g
+    let back = uplinks.written-read u payload g e .0 in
+    let n = length (uplinkBytes u payload) in
+    simp (ne-eqb n 0 (λ z. omega arith), eq-eqb n 436 (omega arith), back, ap goodUplink back ∙ g)
+written-read (Height h) payload t p g = simp (altitudes.terrain-written-read h t g, g)
+written-read (Ownship o) payload t p g = simp (reports.written-read 10 (o .report) g, g)
+written-read (Geometric a) payload t p g = simp (altitudes.geometric-written-read a t g, g)
+written-read (Traffic o) payload t p g = simp (reports.written-read 20 (o .report) g, g)
+written-read (Basic b) payload t p g = simp (pass-throughs.basic-written-read b g, g)
+written-read (Long b) payload t p g = simp (pass-throughs.long-written-read b g, g)
 
 module _ (m : List ℕ) (x : Message) where
   -- what ReadWritten and ReadGood say of one message
