@@ -1,5 +1,7 @@
 //! The proved library's C functions, made safe to call.
 
+pub mod messages;
+
 use reference::collecting::{Answer, ROOM};
 use reference::framing::MESSAGE_MAX;
 

@@ -14,9 +14,11 @@ pub use report::{
     CLIMB_MAX, LATITUDE_MAX, SPEED_MAX,
 };
 
+use crate::framing::MESSAGE_MAX;
 use fields::exactly;
 
 /// Numbers of 01.
+pub use crate::framing::OUTPUT_TOO_SHORT;
 pub const NOT_LISTED: u8 = 6;
 pub const WRONG_LENGTH: u8 = 7;
 pub const OUT_OF_RANGE: u8 = 8;
@@ -79,18 +81,45 @@ pub fn read(message: &[u8]) -> Result<Message, u8> {
 
 /// Checks 7 (an uplink's payload only), then 8 (01).
 pub fn write(message: &Message) -> Result<Vec<u8>, u8> {
-    let with_id = |id: u8, fields: &[u8]| [&[id], fields].concat();
-    Ok(match message {
-        Message::Heartbeat(heartbeat) => with_id(HEARTBEAT_ID, &heartbeat.write()?),
-        Message::Initialization(bytes) => with_id(INITIALIZATION_ID, &bytes.write()),
-        Message::Uplink(uplink) => with_id(UPLINK_ID, &uplink.write()?),
-        Message::Height(height) => with_id(HEIGHT_ID, &height.write()?),
-        Message::Ownship(report) => with_id(OWNSHIP_ID, &report.write()?),
-        Message::Geometric(geometric) => with_id(GEOMETRIC_ID, &geometric.write()?),
-        Message::Traffic(report) => with_id(TRAFFIC_ID, &report.write()?),
-        Message::Basic(basic) => with_id(BASIC_ID, &basic.write()?),
-        Message::Long(long) => with_id(LONG_ID, &long.write()?),
-    })
+    let mut out = [0; MESSAGE_MAX];
+    let length = write_into(message, &mut out)?;
+    Ok(out[..length].to_vec())
+}
+
+/// Checks 7 (an uplink's payload only), 8, 9 in this order (01) and answers how
+/// many bytes were written. A refusal leaves the output unchanged.
+pub fn write_into(message: &Message, out: &mut [u8]) -> Result<usize, u8> {
+    match message {
+        Message::Heartbeat(heartbeat) => put(HEARTBEAT_ID, &heartbeat.write()?, out),
+        Message::Initialization(bytes) => put(INITIALIZATION_ID, &bytes.write(), out),
+        Message::Uplink(uplink) => put_received(UPLINK_ID, uplink.write()?, out),
+        Message::Height(height) => put(HEIGHT_ID, &height.write()?, out),
+        Message::Ownship(report) => put(OWNSHIP_ID, &report.write()?, out),
+        Message::Geometric(geometric) => put(GEOMETRIC_ID, &geometric.write()?, out),
+        Message::Traffic(report) => put(TRAFFIC_ID, &report.write()?, out),
+        Message::Basic(basic) => put_received(BASIC_ID, basic.write()?, out),
+        Message::Long(long) => put_received(LONG_ID, long.write()?, out),
+    }
+}
+
+/// Writes the id and the fields behind it.
+#[inline]
+pub fn put(id: u8, fields: &[u8], out: &mut [u8]) -> Result<usize, u8> {
+    let length = 1 + fields.len();
+    let out = out.get_mut(..length).ok_or(OUTPUT_TOO_SHORT)?;
+    out[0] = id;
+    out[1..].copy_from_slice(fields);
+    Ok(length)
+}
+
+/// Writes the id, the time of reception and the payload.
+fn put_received(id: u8, (time, payload): ([u8; 3], &[u8]), out: &mut [u8]) -> Result<usize, u8> {
+    let length = 1 + time.len() + payload.len();
+    let out = out.get_mut(..length).ok_or(OUTPUT_TOO_SHORT)?;
+    out[0] = id;
+    out[1..4].copy_from_slice(&time);
+    out[4..].copy_from_slice(payload);
+    Ok(length)
 }
 
 #[cfg(test)]
@@ -144,6 +173,48 @@ mod tests {
                 assert_eq!((message[0], message.len()), (id, length));
                 assert_eq!(read(&message), Ok(value));
             }
+        }
+    }
+
+    /// Only the message's bytes change, and none with 9.
+    #[test]
+    fn every_room() {
+        let mut random = Xorshift::new(14);
+        for (id, length) in LENGTHS {
+            let value = samples::value(&mut random, id);
+            let message = write(&value).unwrap();
+            for room in 0..length + 3 {
+                let mut out = vec![0xAA; room];
+                if room < length {
+                    assert_eq!(write_into(&value, &mut out), Err(OUTPUT_TOO_SHORT));
+                    assert_eq!(out, vec![0xAA; room]);
+                } else {
+                    assert_eq!(write_into(&value, &mut out), Ok(length));
+                    assert_eq!(out[..length], message);
+                    assert!(out[length..].iter().all(|&byte| byte == 0xAA));
+                }
+            }
+        }
+    }
+
+    /// 8 comes before 9; 7 before 8 is shown in `received`.
+    #[test]
+    fn range_is_checked_before_the_output() {
+        let mut random = Xorshift::new(15);
+        for (id, length) in LENGTHS {
+            let mut refused = 0;
+            for _ in 0..2_000 {
+                let value = samples::stretched(&mut random, id);
+                if let Err(number) = write(&value) {
+                    refused += 1;
+                    for room in [0, length - 1, length] {
+                        let mut out = vec![0xAA; room];
+                        assert_eq!(write_into(&value, &mut out), Err(number));
+                        assert_eq!(out, vec![0xAA; room]);
+                    }
+                }
+            }
+            assert!(refused > 5 || id == INITIALIZATION_ID, "id {id}: {refused}");
         }
     }
 

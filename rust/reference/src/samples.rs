@@ -48,6 +48,76 @@ pub fn damaged(random: &mut Xorshift, id: u8) -> Vec<u8> {
     message
 }
 
+/// A made-up value with one field of any number, or an uplink's payload of any
+/// length: mostly not to be written.
+pub fn stretched(random: &mut Xorshift, id: u8) -> Message {
+    let mut value = value(random, id);
+    match &mut value {
+        Message::Heartbeat(heartbeat) => stretch_heartbeat(random, heartbeat),
+        // Two bytes of any value (01).
+        Message::Initialization(_) => {}
+        Message::Uplink(uplink) => match random.below(2) {
+            0 => uplink.reception = Some(any(random) as u32),
+            _ => uplink.payload.resize(random.below(440), 0x55),
+        },
+        Message::Height(Height(height)) => *height = Some(TerrainFeet(any(random) as i16)),
+        Message::Geometric(geometric) => geometric.merit = Merit::Metres(any(random) as u16),
+        Message::Ownship(report) | Message::Traffic(report) => stretch_report(random, report),
+        Message::Basic(basic) => basic.reception = Some(any(random) as u32),
+        Message::Long(long) => long.reception = Some(any(random) as u32),
+    }
+    value
+}
+
+fn stretch_heartbeat(random: &mut Xorshift, heartbeat: &mut Heartbeat) {
+    let number = any(random);
+    match random.below(4) {
+        0 => heartbeat.status_2 = number as u8,
+        1 => heartbeat.time = number as u32,
+        2 => heartbeat.uplinks = number as u8,
+        _ => heartbeat.basic_and_long = number as u16,
+    }
+}
+
+fn stretch_report(random: &mut Xorshift, report: &mut Report) {
+    let number = any(random);
+    match random.below(12) {
+        0 => report.alert = number as u8,
+        1 => report.address_type = number as u8,
+        2 => report.address = number as u32,
+        3 => report.position = at(number as i32, any(random) as i32),
+        4 => report.position = [Position::None, at(0, 0)][random.below(2)],
+        5 => report.altitude = Some(AltitudeSteps(number as u16)),
+        6 => report.integrity = number as u8,
+        7 => report.accuracy = number as u8,
+        8 => report.speed = Speed::Knots(number as u16),
+        9 => report.climb = Climb::Steps(number as i16),
+        10 => report.priority = number as u8,
+        _ => report.spare = number as u8,
+    }
+}
+
+/// Any number, mostly next to a border of some field; its lower bits count.
+fn any(random: &mut Xorshift) -> i64 {
+    let borders = [
+        TIME_MAX.into(),
+        RECEPTION_MAX.into(),
+        CLIMB_MAX.into(),
+        CATEGORY_MAX.into(),
+        // Marks of a figure of merit and of a height.
+        0x7EEE,
+        0x7FFF,
+        0x8000,
+        1 << random.below(33),
+    ];
+    let near = borders[random.below(borders.len())] + random.below(5) as i64 - 2;
+    match random.below(4) {
+        0 => random.next_u64() as i64,
+        1 => -near,
+        _ => near,
+    }
+}
+
 fn heartbeat(random: &mut Xorshift) -> Heartbeat {
     Heartbeat {
         status_1: byte(random),
@@ -122,15 +192,18 @@ fn position_and_integrity(random: &mut Xorshift) -> (Position, u8) {
     let integrity = within(random, 0, CATEGORY_MAX.into()) as u8;
     let latitude = within(random, -LATITUDE_MAX, LATITUDE_MAX);
     let longitude = within(random, -(1 << 23), (1 << 23) - 1);
-    let at = |latitude, longitude| Position::At {
-        latitude,
-        longitude,
-    };
     match random.below(8) {
         0 => (Position::None, 0),
         1 => (at(0, 0), integrity.max(1)),
         2 => (at(latitude, 0), integrity.max(1)),
         _ => (at(latitude, longitude | 1), integrity),
+    }
+}
+
+fn at(latitude: i32, longitude: i32) -> Position {
+    Position::At {
+        latitude,
+        longitude,
     }
 }
 

@@ -5,9 +5,16 @@
 use std::hint::black_box;
 use std::time::Instant;
 
+use compare::messages::{
+    read_heartbeat, read_traffic, write_heartbeat, write_traffic, RawHeartbeat, RawReport,
+};
 use reference::collecting::Answer;
 use reference::framing::{Framed, MESSAGE_MAX};
+use reference::messages::{
+    put, Heartbeat, Message, Report, HEARTBEAT_ID, LENGTHS, NOT_LISTED, TRAFFIC_ID, WRONG_LENGTH,
+};
 use reference::recording::speed_recording;
+use reference::samples::whole;
 use reference::xorshift::Xorshift;
 
 const MESSAGES: usize = 64;
@@ -27,6 +34,9 @@ fn main() {
     measure_check_sequence("check_sequence", &plain);
     measure_frame("frame", &plain);
     measure_frame("frame_escapes", &escapes);
+    measure_heartbeats(&whole_set(&mut random, &[HEARTBEAT_ID]));
+    measure_traffic(&whole_set(&mut random, &[TRAFFIC_ID]));
+    measure_any(&whole_set(&mut random, &LENGTHS.map(|(id, _)| id)));
     measure_collect(&speed_recording());
 }
 
@@ -34,6 +44,12 @@ fn message_set(random: &mut Xorshift, eighths: usize) -> Vec<Vec<u8>> {
     (0..MESSAGES)
         .map(|_| random.message_with_escapes(MESSAGE_MAX, eighths))
         .collect()
+}
+
+/// Whole messages, of the kinds with these ids in turn.
+fn whole_set(random: &mut Xorshift, ids: &[u8]) -> Vec<Vec<u8>> {
+    let ids = ids.iter().cycle().take(MESSAGES);
+    ids.map(|&id| whole(random, id)).collect()
 }
 
 /// Not inlined, as the proved functions are real calls too.
@@ -47,53 +63,128 @@ fn reference_frame(message: &[u8], out: &mut [u8]) -> Framed {
     reference::framing::frame(message, out)
 }
 
+/// The fields behind the id: 6, then 7 (01).
+fn fields<const N: usize>(id: u8, message: &[u8]) -> Result<&[u8; N], u8> {
+    match message {
+        [first, fields @ ..] if *first == id => fields.try_into().map_err(|_| WRONG_LENGTH),
+        _ => Err(NOT_LISTED),
+    }
+}
+
+#[inline(never)]
+fn reference_read_heartbeat(message: &[u8]) -> Result<Heartbeat, u8> {
+    Heartbeat::read(fields(HEARTBEAT_ID, message)?)
+}
+
+#[inline(never)]
+fn reference_read_traffic(message: &[u8]) -> Result<Report, u8> {
+    Report::read(fields(TRAFFIC_ID, message)?)
+}
+
+#[inline(never)]
+fn reference_write_heartbeat(heartbeat: &Heartbeat, out: &mut [u8]) -> Result<usize, u8> {
+    put(HEARTBEAT_ID, &heartbeat.write()?, out)
+}
+
+#[inline(never)]
+fn reference_write_traffic(report: &Report, out: &mut [u8]) -> Result<usize, u8> {
+    put(TRAFFIC_ID, &report.write()?, out)
+}
+
+#[inline(never)]
+fn rattle_read_any(message: &[u8]) -> Result<Message, u8> {
+    compare::messages::read(message)
+}
+
+#[inline(never)]
+fn reference_read_any(message: &[u8]) -> Result<Message, u8> {
+    reference::messages::read(message)
+}
+
 fn measure_check_sequence(name: &str, messages: &[Vec<u8>]) {
-    measure_messages(
+    measure(
         name,
         messages,
-        |message| {
-            black_box(compare::check_sequence(black_box(message)));
-        },
-        |message| {
-            black_box(reference_check_sequence(black_box(message)));
-        },
+        |message| compare::check_sequence(message),
+        |message| reference_check_sequence(message),
     );
 }
 
 fn measure_frame(name: &str, messages: &[Vec<u8>]) {
     let (mut proved, mut expected) = ([0; ROOM], [0; ROOM]);
-    measure_messages(
+    measure(
         name,
         messages,
-        |message| {
-            black_box(compare::frame(black_box(message), black_box(&mut proved)));
-        },
-        |message| {
-            black_box(reference_frame(
-                black_box(message),
-                black_box(&mut expected),
-            ));
-        },
+        |message| compare::frame(message, black_box(&mut proved)),
+        |message| reference_frame(message, black_box(&mut expected)),
     );
 }
 
-fn measure_messages(
+fn measure_heartbeats(messages: &[Vec<u8>]) {
+    measure(
+        "read_heartbeat",
+        messages,
+        |message| read_heartbeat(message),
+        |message| reference_read_heartbeat(message),
+    );
+    let raws = messages.iter().map(|message| read_heartbeat(message).value);
+    let values: Vec<(RawHeartbeat, Heartbeat)> = raws.map(|raw| (raw, raw.into())).collect();
+    let (mut proved, mut expected) = ([0; ROOM], [0; ROOM]);
+    measure(
+        "write_heartbeat",
+        &values,
+        |(raw, _)| write_heartbeat(*raw, black_box(&mut proved)),
+        |(_, heartbeat)| reference_write_heartbeat(heartbeat, black_box(&mut expected)),
+    );
+}
+
+fn measure_traffic(messages: &[Vec<u8>]) {
+    measure(
+        "read_traffic",
+        messages,
+        |message| read_traffic(message),
+        |message| reference_read_traffic(message),
+    );
+    let raws = messages.iter().map(|message| read_traffic(message).value);
+    let values: Vec<(RawReport, Report)> = raws.map(|raw| (raw, raw.into())).collect();
+    let (mut proved, mut expected) = ([0; ROOM], [0; ROOM]);
+    measure(
+        "write_traffic",
+        &values,
+        |(raw, _)| write_traffic(*raw, black_box(&mut proved)),
+        |(_, report)| reference_write_traffic(report, black_box(&mut expected)),
+    );
+}
+
+/// To the same type on both sides, an uplink's payload copied.
+fn measure_any(messages: &[Vec<u8>]) {
+    measure(
+        "read_any",
+        messages,
+        |message| rattle_read_any(message),
+        |message| reference_read_any(message),
+    );
+}
+
+fn measure<T, A, B>(
     name: &str,
-    messages: &[Vec<u8>],
-    mut rattle: impl FnMut(&[u8]),
-    mut rust: impl FnMut(&[u8]),
+    items: &[T],
+    mut rattle: impl FnMut(&T) -> A,
+    mut rust: impl FnMut(&T) -> B,
 ) {
-    let mut rattle = || go_through(messages, &mut rattle);
-    let mut rust = || go_through(messages, &mut rust);
+    let mut rattle = || go_through(items, &mut rattle);
+    let mut rust = || go_through(items, &mut rust);
     let [rattle, rust] = medians(ROUNDS, [&mut rattle, &mut rust])
-        .map(|round| round / (PASSES * messages.len()) as f64);
+        .map(|round| round / (PASSES * items.len()) as f64);
     report(name, "ns", 1, [rattle, rust]);
 }
 
-fn go_through(messages: &[Vec<u8>], call: &mut impl FnMut(&[u8])) {
+fn go_through<T, A>(items: &[T], call: &mut impl FnMut(&T) -> A) {
     for _ in 0..PASSES {
-        for message in messages {
-            call(message);
+        for item in items {
+            // By reference: the answer stays where the call put it.
+            let answer = call(black_box(item));
+            black_box(&answer);
         }
     }
 }

@@ -18,7 +18,9 @@ pub struct Heartbeat {
 }
 
 impl Heartbeat {
-    pub(super) fn read(fields: &[u8; 6]) -> Result<Self, u8> {
+    /// From the bytes behind the id.
+    #[inline]
+    pub fn read(fields: &[u8; 6]) -> Result<Self, u8> {
         let [status_1, second, time_low, time_middle, counts, counts_low] = *fields;
         let time = u32::from_le_bytes([time_low, time_middle, second >> 7, 0]);
         Ok(Self {
@@ -31,7 +33,9 @@ impl Heartbeat {
         })
     }
 
-    pub(super) fn write(&self) -> Result<[u8; 6], u8> {
+    /// The bytes behind the id.
+    #[inline]
+    pub fn write(&self) -> Result<[u8; 6], u8> {
         let status_2 = in_range(self.status_2, 0..=0x7F)?;
         let [low, middle, high, _] = in_range(self.time, 0..=TIME_MAX)?.to_le_bytes();
         let uplinks = in_range(self.uplinks, 0..=31)?;

@@ -24,10 +24,10 @@ impl Uplink {
         Ok(Self { reception, payload })
     }
 
-    pub(super) fn write(&self) -> Result<Vec<u8>, u8> {
-        let payload = *exactly::<PAYLOAD_LENGTH>(&self.payload)?;
-        let reception = self.reception;
-        Received { reception, payload }.write()
+    /// The time, and the payload behind it.
+    pub(super) fn write(&self) -> Result<([u8; 3], &[u8]), u8> {
+        let payload = exactly::<PAYLOAD_LENGTH>(&self.payload)?;
+        Ok((write_reception(self.reception)?, payload))
     }
 }
 
@@ -47,9 +47,9 @@ impl<const N: usize> Received<N> {
         Ok(Self { reception, payload })
     }
 
-    pub(super) fn write(&self) -> Result<Vec<u8>, u8> {
-        let time = write_reception(self.reception)?;
-        Ok([&time[..], &self.payload].concat())
+    /// The time, and the payload behind it.
+    pub(super) fn write(&self) -> Result<([u8; 3], &[u8]), u8> {
+        Ok((write_reception(self.reception)?, &self.payload))
     }
 }
 

@@ -45,7 +45,9 @@ pub struct Report {
 }
 
 impl Report {
-    pub(super) fn read(fields: &[u8; 27]) -> Result<Self, u8> {
+    /// From the bytes behind the id.
+    #[inline]
+    pub fn read(fields: &[u8; 27]) -> Result<Self, u8> {
         let [st, a1, a2, a3, l1, l2, l3, n1, n2, n3, others @ ..] = *fields;
         let [dd, dm, ia, hh, hv, vv, track, emitter, call_sign @ .., px] = others;
         let (alert, address_type) = halves(st);
@@ -75,31 +77,31 @@ impl Report {
         })
     }
 
-    pub(super) fn write(&self) -> Result<Vec<u8>, u8> {
+    /// The bytes behind the id.
+    #[inline]
+    pub fn write(&self) -> Result<[u8; 27], u8> {
+        let st = from_halves(self.alert, self.address_type)?;
         let address = in_range(self.address, 0..=0xFF_FFFF)? as i32;
         let (latitude, longitude) = self.position.write(self.integrity)?;
+        let altitude = write_altitude(self.altitude)?;
         let integrity = in_range(self.integrity, 0..=CATEGORY_MAX)?;
         let accuracy = in_range(self.accuracy, 0..=CATEGORY_MAX)?;
-        let altitude = write_altitude(self.altitude)?;
         let speed = self.speed.write()?;
         let [climb, vv] = self.climb.write()?.to_be_bytes();
-        let mut out = vec![from_halves(self.alert, self.address_type)?];
-        out.extend(bytes_24(address));
-        out.extend(bytes_24(latitude));
-        out.extend(bytes_24(longitude));
-        out.extend([
-            (altitude >> 4) as u8,
-            ((altitude & 0xF) as u8) << 4 | self.indicators(),
-            from_halves(integrity, accuracy)?,
-            (speed >> 4) as u8,
-            ((speed & 0xF) as u8) << 4 | climb,
-            vv,
-            self.track,
-            self.emitter,
-        ]);
-        out.extend(self.call_sign);
-        out.push(from_halves(self.priority, self.spare)?);
-        Ok(out)
+        let px = from_halves(self.priority, self.spare)?;
+
+        let [a1, a2, a3] = bytes_24(address);
+        let [l1, l2, l3] = bytes_24(latitude);
+        let [n1, n2, n3] = bytes_24(longitude);
+        let [dd, dm] = (altitude << 4 | u16::from(self.indicators())).to_be_bytes();
+        let ia = integrity << 4 | accuracy;
+        let [hh, hv] = (speed << 4 | u16::from(climb)).to_be_bytes();
+        let (tt, ee) = (self.track, self.emitter);
+        let [c1, c2, c3, c4, c5, c6, c7, c8] = self.call_sign;
+        Ok([
+            st, a1, a2, a3, l1, l2, l3, n1, n2, n3, dd, dm, ia, hh, hv, vv, tt, ee, c1, c2, c3, c4,
+            c5, c6, c7, c8, px,
+        ])
     }
 
     /// 001 Table 9.

@@ -88,7 +88,7 @@ fn every_letter_has_its_place() {
         spare: 0xB,
     };
     assert_eq!(Report::read(&fields), Ok(expected));
-    assert_eq!(expected.write(), Ok(fields.to_vec()));
+    assert_eq!(expected.write(), Ok(fields));
 }
 
 /// 001 §3.5.1.4 and value 9 of 01.

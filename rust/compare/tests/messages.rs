@@ -1,0 +1,483 @@
+//! The proved library and the reference read and write the same messages.
+
+use std::fmt::Debug;
+use std::hint::black_box;
+use std::mem::{align_of, size_of};
+
+use compare::messages::*;
+use reference::messages::{
+    AltitudeSteps, Climb, GeometricAltitude, Heartbeat, Height, Merit, Message, Report, Speed,
+    TerrainFeet, Uplink, BASIC_ID, GEOMETRIC_ID, HEARTBEAT_ID, HEIGHT_ID, INITIALIZATION_ID,
+    LENGTHS, LONG_ID, NOT_LISTED, OUTPUT_TOO_SHORT, OUT_OF_RANGE, OWNSHIP_ID, PAYLOAD_LENGTH,
+    RECEPTION_MAX, TRAFFIC_ID, UPLINK_ID, WRONG_LENGTH,
+};
+use reference::samples;
+use reference::vectors::{HEARTBEAT, SALEM};
+use reference::xorshift::Xorshift;
+
+/// Messages made up of each kind in one test.
+const ROUNDS: usize = 5_000;
+/// Bytes on each side of the output that no call may touch.
+const GUARD: usize = 16;
+/// Room for every message.
+const ROOM: usize = 440;
+
+/// Reads with the function of the kind with this id.
+fn read_as(id: u8, message: &[u8]) -> Result<Message, u8> {
+    match id {
+        HEARTBEAT_ID => answer(read_heartbeat(message)).map(Message::Heartbeat),
+        INITIALIZATION_ID => answer(read_initialization(message)).map(Message::Initialization),
+        UPLINK_ID => answer(read_uplink(message)).map(|reception| {
+            let payload = message[4..].to_vec();
+            Message::Uplink(Uplink { reception, payload })
+        }),
+        HEIGHT_ID => answer(read_height(message)).map(Message::Height),
+        OWNSHIP_ID => answer(read_ownship(message)).map(Message::Ownship),
+        GEOMETRIC_ID => answer(read_geometric(message)).map(Message::Geometric),
+        TRAFFIC_ID => answer(read_traffic(message)).map(Message::Traffic),
+        BASIC_ID => answer(read_basic(message)).map(Message::Basic),
+        LONG_ID => answer(read_long(message)).map(Message::Long),
+        _ => panic!("no kind has the id {id}"),
+    }
+}
+
+/// The answer in the reference's terms. The value of a refusal is zero, and so
+/// is a number with a mark, which the way there and back shows.
+fn answer<Raw, Value>(answer: RawRead<Raw>) -> Result<Value, u8>
+where
+    Raw: Copy + Debug + Default + PartialEq + From<Value>,
+    Value: Copy + From<Raw>,
+{
+    if answer.number != 0 {
+        assert_eq!(answer.value, Raw::default(), "value of a refusal");
+        return Err(answer.number);
+    }
+    let value = Value::from(answer.value);
+    assert_eq!(answer.value, Raw::from(value), "a number with a mark");
+    Ok(value)
+}
+
+/// By the function that looks for the kind, and by the kind's own.
+fn assert_readings_agree(message: &[u8]) {
+    let expected = reference::messages::read(message);
+    assert_eq!(read(message), expected, "{message:02X?}");
+    for (id, _) in LENGTHS {
+        if message.first() == Some(&id) {
+            assert_eq!(read_as(id, message), expected, "{message:02X?}");
+        }
+    }
+}
+
+/// What a function of writing answers in this room, with the bytes written.
+/// Nothing else changes, and a refusal changes nothing (01).
+fn written(room: usize, mut write: impl FnMut(&mut [u8]) -> RawWritten) -> Result<Vec<u8>, u8> {
+    // A byte that was not written differs between the two fills.
+    let [first, second] = [0xA5, 0x5A].map(|fill| {
+        let mut lent = vec![fill; GUARD + room + GUARD];
+        let answer = write(&mut lent[GUARD..GUARD + room]);
+        // The compiler may hold that a call leaves the guards as they are.
+        let lent = black_box(lent);
+        let end = GUARD + answer.length;
+        let mut others = lent[..GUARD].iter().chain(&lent[end..]);
+        assert!(others.all(|&byte| byte == fill), "{answer:?}: {lent:02X?}");
+        assert!(answer.number == 0 || answer.length == 0, "{answer:?}");
+        answer.result().map(|_| lent[GUARD..end].to_vec())
+    });
+    assert_eq!(first, second);
+    first
+}
+
+fn assert_writings_agree(value: &Message, room: usize) {
+    let expected = match reference::messages::write(value) {
+        Ok(message) if message.len() > room => Err(OUTPUT_TOO_SHORT),
+        answer => answer,
+    };
+    let answer = written(room, |out| write_raw(value, out));
+    assert_eq!(answer, expected, "in {room} bytes: {value:?}");
+}
+
+fn layout<T>() -> (usize, usize) {
+    (size_of::<T>(), align_of::<T>())
+}
+
+/// As a C compiler lays them out.
+#[test]
+fn sizes_and_alignments() {
+    assert_eq!(layout::<RawHeartbeat>(), (12, 4));
+    assert_eq!(layout::<RawInitialization>(), (2, 1));
+    assert_eq!(layout::<RawUplink>(), (8, 4));
+    assert_eq!(layout::<RawHeight>(), (4, 2));
+    assert_eq!(layout::<RawReport>(), (52, 4));
+    assert_eq!(layout::<RawGeometric>(), (6, 2));
+    assert_eq!(layout::<RawBasic>(), (28, 4));
+    assert_eq!(layout::<RawLong>(), (44, 4));
+
+    assert_eq!(layout::<RawRead<RawHeartbeat>>(), (16, 4));
+    assert_eq!(layout::<RawRead<RawInitialization>>(), (3, 1));
+    assert_eq!(layout::<RawRead<RawUplink>>(), (12, 4));
+    assert_eq!(layout::<RawRead<RawHeight>>(), (6, 2));
+    assert_eq!(layout::<RawRead<RawReport>>(), (56, 4));
+    assert_eq!(layout::<RawRead<RawGeometric>>(), (8, 2));
+    assert_eq!(layout::<RawRead<RawBasic>>(), (32, 4));
+    assert_eq!(layout::<RawRead<RawLong>>(), (48, 4));
+
+    let (word, alignment) = layout::<usize>();
+    assert_eq!(layout::<RawWritten>(), (2 * word, alignment));
+}
+
+#[test]
+fn examples_of_001_agree() {
+    for message in [&HEARTBEAT[..], &SALEM] {
+        assert_readings_agree(message);
+        assert_writings_agree(&read(message).unwrap(), message.len());
+    }
+}
+
+#[test]
+fn generated_messages_agree() {
+    let mut random = Xorshift::new(20);
+    for (id, length) in LENGTHS {
+        for _ in 0..ROUNDS {
+            let value = samples::value(&mut random, id);
+            assert_writings_agree(&value, length);
+            assert_readings_agree(&reference::messages::write(&value).unwrap());
+        }
+    }
+}
+
+#[test]
+fn damaged_messages_agree() {
+    let mut random = Xorshift::new(21);
+    for (id, _) in LENGTHS {
+        for _ in 0..ROUNDS {
+            assert_readings_agree(&samples::damaged(&mut random, id));
+        }
+    }
+}
+
+/// Of the kind's length, so that it is the fields that decide.
+#[test]
+fn random_fields_agree() {
+    let mut random = Xorshift::new(22);
+    for (id, length) in LENGTHS {
+        for _ in 0..ROUNDS {
+            let mut message = random.message(length);
+            message[0] = id;
+            assert_readings_agree(&message);
+        }
+    }
+}
+
+#[test]
+fn random_bytes_agree() {
+    let mut random = Xorshift::new(23);
+    for _ in 0..20 * ROUNDS {
+        let bound = [4, 40, 500][random.below(3)];
+        let length = random.below(bound);
+        assert_readings_agree(&random.message(length));
+    }
+}
+
+#[test]
+fn every_id_with_every_length_agrees() {
+    let mut random = Xorshift::new(24);
+    assert_readings_agree(&[]);
+    for id in 0..=255 {
+        for length in 1..=440 {
+            for mut message in [vec![0; length], random.message(length)] {
+                message[0] = id;
+                assert_readings_agree(&message);
+            }
+        }
+    }
+}
+
+/// A kind's function knows no id but its own.
+#[test]
+fn messages_of_other_kinds_are_not_listed() {
+    let mut random = Xorshift::new(25);
+    for (id, length) in LENGTHS {
+        assert_eq!(read_as(id, &[]), Err(NOT_LISTED));
+        for other in (0..=255).filter(|&other| other != id) {
+            let mut message = samples::whole(&mut random, id);
+            message[0] = other;
+            assert_eq!(read_as(id, &message), Err(NOT_LISTED), "{message:02X?}");
+            message.truncate(random.below(length));
+            assert_eq!(read_as(id, &message), Err(NOT_LISTED), "{message:02X?}");
+        }
+        for (other, _) in LENGTHS.into_iter().filter(|&(other, _)| other != id) {
+            let message = samples::whole(&mut random, other);
+            assert_eq!(read_as(id, &message), Err(NOT_LISTED), "{message:02X?}");
+        }
+    }
+}
+
+#[test]
+fn every_room_agrees() {
+    let mut random = Xorshift::new(26);
+    for (id, length) in LENGTHS {
+        for _ in 0..3 {
+            let value = samples::value(&mut random, id);
+            for room in 0..=length + 2 {
+                assert_writings_agree(&value, room);
+            }
+        }
+    }
+}
+
+/// Answers 7 and 8, in rooms that are enough and too short.
+#[test]
+fn stretched_values_agree() {
+    let mut random = Xorshift::new(27);
+    for (id, length) in LENGTHS {
+        for _ in 0..4 * ROUNDS {
+            let room = [0, length - 1, length, ROOM][random.below(4)];
+            assert_writings_agree(&samples::stretched(&mut random, id), room);
+        }
+    }
+}
+
+#[test]
+fn every_height_and_merit_agrees() {
+    for number in 0..=u16::MAX {
+        let height = Height(Some(TerrainFeet(number as i16)));
+        assert_writings_agree(&Message::Height(height), ROOM);
+        let geometric = GeometricAltitude {
+            merit: Merit::Metres(number),
+            ..RawGeometric::default().into()
+        };
+        assert_writings_agree(&Message::Geometric(geometric), ROOM);
+    }
+}
+
+#[test]
+fn every_number_in_a_heartbeat_agrees() {
+    let example: Heartbeat = read_heartbeat(&HEARTBEAT).value.into();
+    for number in 0..=u16::MAX {
+        for change in [
+            |heartbeat: &mut Heartbeat, number| heartbeat.status_2 = number as u8,
+            |heartbeat: &mut Heartbeat, number| heartbeat.uplinks = number as u8,
+            |heartbeat: &mut Heartbeat, number| heartbeat.basic_and_long = number,
+        ] {
+            let mut heartbeat = example;
+            change(&mut heartbeat, number);
+            assert_writings_agree(&Message::Heartbeat(heartbeat), ROOM);
+        }
+    }
+}
+
+#[test]
+fn every_number_in_a_report_agrees() {
+    let example: Report = read_traffic(&SALEM).value.into();
+    for number in 0..=u16::MAX {
+        for change in [
+            |report: &mut Report, number| report.alert = number as u8,
+            |report: &mut Report, number| report.address_type = number as u8,
+            |report: &mut Report, number| report.altitude = Some(AltitudeSteps(number)),
+            |report: &mut Report, number| report.integrity = number as u8,
+            |report: &mut Report, number| report.accuracy = number as u8,
+            |report: &mut Report, number| report.speed = Speed::Knots(number),
+            |report: &mut Report, number| report.climb = Climb::Steps(number as i16),
+            |report: &mut Report, number| report.priority = number as u8,
+            |report: &mut Report, number| report.spare = number as u8,
+        ] {
+            let mut report = example;
+            change(&mut report, number);
+            assert_writings_agree(&Message::Ownship(report), ROOM);
+            assert_writings_agree(&Message::Traffic(report), ROOM);
+        }
+    }
+}
+
+type WriteReport = fn(RawReport, &mut [u8]) -> RawWritten;
+
+const REPORT_WRITERS: [WriteReport; 2] = [write_ownship, write_traffic];
+
+/// Writes every mark into the value; those up to `last` are the field's.
+fn assert_marks<Raw: Copy + Debug>(
+    value: Raw,
+    write: impl Fn(Raw, &mut [u8]) -> RawWritten,
+    last: u8,
+    set: fn(&mut Raw, u8),
+) {
+    for mark in 0..=u8::MAX {
+        let mut value = value;
+        set(&mut value, mark);
+        let answer = written(ROOM, |out| write(value, out));
+        if mark <= last {
+            assert!(answer.is_ok(), "{answer:?}: {value:?}");
+        } else {
+            assert_eq!(answer, Err(OUT_OF_RANGE), "{value:?}");
+        }
+    }
+}
+
+#[test]
+fn unknown_marks_are_refused() {
+    let uplink = |value, out: &mut [u8]| write_uplink(value, &[0; PAYLOAD_LENGTH], out);
+    assert_marks(RawUplink::default(), uplink, NONE, |uplink, mark| {
+        uplink.reception_mark = mark
+    });
+    assert_marks(RawBasic::default(), write_basic, NONE, |basic, mark| {
+        basic.reception_mark = mark
+    });
+    assert_marks(RawLong::default(), write_long, NONE, |long, mark| {
+        long.reception_mark = mark
+    });
+    assert_marks(RawHeight::default(), write_height, NONE, |height, mark| {
+        height.height_mark = mark
+    });
+    let geometric = RawGeometric::default();
+    assert_marks(geometric, write_geometric, OVER, |geometric, mark| {
+        geometric.merit_mark = mark
+    });
+}
+
+#[test]
+fn unknown_marks_of_a_report_are_refused() {
+    // With integrity 0, so that there may be no position.
+    let report = RawReport {
+        longitude: 1,
+        ..RawReport::default()
+    };
+    for write in REPORT_WRITERS {
+        assert_marks(report, write, NONE, |report, mark| {
+            report.position_mark = mark
+        });
+        assert_marks(report, write, NONE, |report, mark| {
+            report.altitude_mark = mark
+        });
+        assert_marks(report, write, OVER, |report, mark| report.speed_mark = mark);
+        assert_marks(report, write, BELOW, |report, mark| {
+            report.climb_mark = mark
+        });
+        // Not a mark, but refused alike: 001 Table 9 has four.
+        assert_marks(report, write, 3, |report, kind| report.track_kind = kind);
+    }
+}
+
+#[test]
+fn reserved_is_one_bit() {
+    assert_marks(RawHeartbeat::default(), write_heartbeat, 1, |value, bit| {
+        value.reserved = bit
+    });
+}
+
+/// The two values differ only in numbers with marks.
+fn assert_written_alike<Raw: Copy + Debug>(
+    values: [Raw; 2],
+    write: impl Fn(Raw, &mut [u8]) -> RawWritten,
+) {
+    let [first, second] = values.map(|value| written(ROOM, |out| write(value, out)));
+    assert!(first.is_ok(), "{first:?}: {values:?}");
+    assert_eq!(first, second, "{values:?}");
+}
+
+#[test]
+fn numbers_with_marks_are_not_looked_at() {
+    let receptions = [0, u32::MAX];
+    let uplinks = receptions.map(|reception| RawUplink {
+        reception_mark: NONE,
+        reception,
+    });
+    assert_written_alike(uplinks, |value, out| {
+        write_uplink(value, &[0; PAYLOAD_LENGTH], out)
+    });
+    let basics = receptions.map(|reception| RawBasic {
+        reception_mark: NONE,
+        reception,
+        ..RawBasic::default()
+    });
+    assert_written_alike(basics, write_basic);
+    let longs = receptions.map(|reception| RawLong {
+        reception_mark: NONE,
+        reception,
+        ..RawLong::default()
+    });
+    assert_written_alike(longs, write_long);
+    let heights = [0, i16::MIN].map(|height| RawHeight {
+        height_mark: NONE,
+        height,
+    });
+    assert_written_alike(heights, write_height);
+    for merit_mark in [NONE, OVER] {
+        let geometrics = [0, u16::MAX].map(|merit| RawGeometric {
+            merit_mark,
+            merit,
+            ..RawGeometric::default()
+        });
+        assert_written_alike(geometrics, write_geometric);
+    }
+}
+
+#[test]
+fn numbers_with_marks_of_a_report_are_not_looked_at() {
+    for (speed_mark, climb_mark) in [(NONE, NONE), (OVER, OVER), (OVER, BELOW)] {
+        let zeros = RawReport {
+            position_mark: NONE,
+            altitude_mark: NONE,
+            speed_mark,
+            climb_mark,
+            ..RawReport::default()
+        };
+        let others = RawReport {
+            latitude: i32::MIN,
+            longitude: i32::MAX,
+            altitude: u16::MAX,
+            speed: u16::MAX,
+            climb: i32::MIN,
+            ..zeros
+        };
+        for write in REPORT_WRITERS {
+            assert_written_alike([zeros, others], write);
+        }
+    }
+}
+
+/// Wider than the reference's: the lower 16 or 12 bits of some are in range.
+#[test]
+fn climbs_of_32_bits_are_refused() {
+    for climb in [
+        510,
+        -510,
+        4_096,
+        0xFFF,
+        32_768,
+        -32_769,
+        65_536,
+        65_537,
+        -65_535,
+        i32::MIN,
+        i32::MAX,
+    ] {
+        let value = RawReport {
+            longitude: 1,
+            climb,
+            ..RawReport::default()
+        };
+        for write in REPORT_WRITERS {
+            let answer = written(ROOM, |out| write(value, out));
+            assert_eq!(answer, Err(OUT_OF_RANGE), "climb {climb}");
+        }
+    }
+}
+
+/// 7, then 8, then 9 (01); only an uplink has all three.
+#[test]
+fn refusals_of_an_uplink_have_their_order() {
+    let (last, beyond) = (RECEPTION_MAX, RECEPTION_MAX + 1);
+    for (length, reception, room, number) in [
+        (431, beyond, 0, WRONG_LENGTH),
+        (433, beyond, 436, WRONG_LENGTH),
+        (0, last, 435, WRONG_LENGTH),
+        (432, beyond, 0, OUT_OF_RANGE),
+        (432, beyond, 436, OUT_OF_RANGE),
+        (432, last, 0, OUTPUT_TOO_SHORT),
+        (432, last, 435, OUTPUT_TOO_SHORT),
+    ] {
+        let value = RawUplink::from(Some(reception));
+        let payload = vec![0; length];
+        let answer = written(room, |out| write_uplink(value, &payload, out));
+        assert_eq!(answer, Err(number), "{length}, {reception}, {room}");
+    }
+}
