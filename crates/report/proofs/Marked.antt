@@ -2,17 +2,17 @@
 -- Assumes nothing.
 use mathlib.Core.Path.{_≡_, refl, sym, ap}
 use mathlib.Core.Bool.{Bool, true, false, cond, Bool·beq, _&&_}
-use Prim.Native.Nat.{ℕ, _<_}
+use Prim.Native.Nat.{ℕ, zero, suc, _*_, _-_, _<_}
 use native.Mathlib.Omega.{arith}
 use lib.Dec.{eqb, ltb, leb}
 use lib.IntN.{ℤ, pos, negsuc}
 use lib.Signed.{mag}
-use borrow.Author.Tests.{ne-eqb, ltb-true, eqb-true, leb-true}
+use borrow.Author.Tests.{ne-eqb, ltb-true, eqb-true, leb-true, le-leb, lt-leb}
 use Rattle.numbers.proofs.Every.{both, chosen, every, at}
 use Rattle.numbers.proofs.Signed.{field-signed, signed-field, field-fits}
 use Rattle.numbers.specs.Signed.{signedIn, fieldOf}
 use Rattle.report.specs.Marks.{noneMark, positionOf, isNone, placeOf, altitudeOf, stepsOr, kindOf, kindNumber, bit, speedOf, knotsOr, climbOf, climbOr}
-use Rattle.report.specs.Reading.{between, goodPosition}
+use Rattle.report.specs.Reading.{between, isZero, goodPosition}
 use Rattle.kinds.specs.declared.Position.{Position}
 use Rattle.kinds.specs.declared.Position.the-variants.{At, None as no-position}
 use Rattle.kinds.specs.declared.Altitude.{Altitude}
@@ -126,6 +126,13 @@ position-code lat lon i h k = go (noneMark lat lon i) refl
         (sym (eqb-true lat 0 (z .0)), sym (eqb-true lon 0 (z .1)))
     go false e = (field-signed 0x800000 lat (omega arith), field-signed 0x800000 lon (omega arith))
 
+zero-code : (z : ℤ) → mag z < 0x800000 → eqb (degreeCode z) 0 ≡ isZero z
+unfolding fieldOf
+zero-code (pos zero) h = refl
+zero-code (pos (suc n)) h = simp (ne-eqb (suc n) 0 (λ e. omega arith), le-leb 0 (suc n) (omega arith), lt-leb (suc n) 0 (omega arith))
+zero-code (negsuc n) h =
+    let k : n < 0x800000 = h in ne-eqb (2 * 0x800000 - 1 - n) 0 (λ (e : 2 * 0x800000 - 1 - n ≡ 0). omega arith)
+
 pub position-back : (p : Position) (i : ℕ) → goodPosition p i ≡ true → (positionOf (degreeCode (placeOf p .latitude)) (degreeCode (placeOf p .longitude)) i ≡ p) × (degreeCode (placeOf p .latitude) < 0x1000000) × (degreeCode (placeOf p .longitude) < 0x1000000)
 unfolding goodPosition positionOf
 position-back p i g =
@@ -135,7 +142,7 @@ position-back p i g =
     let b = both (between (negsuc 4194303) (pos 4194304) lat) _ (a .0) in
     let h = sized 4194303 4194304 0x800000 lat (b .0) (omega arith) (omega arith) in
     let k = sized 8388607 8388607 0x800000 lon (b .1) (omega arith) (omega arith) in (
-      go p h k (noneMark (degreeCode lat) (degreeCode lon) i) (a .1),
+      simp (zero-code lat h, zero-code lon k) (go p h k (isZero lat && isZero lon && eqb i 0) (a .1)),
       omega (arith, field-fits 0x800000 lat (omega arith)),
       omega (arith, field-fits 0x800000 lon (omega arith)),
     )

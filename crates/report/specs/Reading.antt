@@ -7,8 +7,7 @@ use lib.Dec.{eqb, ltb}
 use lib.IntN.{ℤ, pos, negsuc}
 use lib.Signed.{leZ}
 use Rattle.fields.specs.Reading.{reading}
-use Rattle.numbers.specs.Signed.{fieldOf}
-use Rattle.report.specs.Marks.{noneMark, isNone, placeOf, stepsOr, knotsOr, climbOr}
+use Rattle.report.specs.Marks.{isNone, placeOf, stepsOr, knotsOr, climbOr}
 use Rattle.report.specs.Bytes.{reportIn}
 use Rattle.kinds.specs.declared.Position.{Position}
 use Rattle.kinds.specs.declared.Position.the-variants.{At}
@@ -26,12 +25,15 @@ use Rattle.kinds.specs.declared.Reading.the-variants.{Message as accepted, Refu
 abbrev pub between : ℤ → ℤ → ℤ → Bool
 between low high z = leZ low z && leZ z high
 
+abbrev pub isZero : ℤ → Bool
+isZero = between (pos 0) (pos 0)
+
 -- within its range (`negsuc k` is -(k + 1)), and none exactly if latitude, longitude and integrity are all 0
 unfoldable pub goodPosition : Position → ℕ → Bool
 goodPosition p integrity =
     between (negsuc 4194303) (pos 4194304) (placeOf p .latitude)
     && between (negsuc 8388607) (pos 8388607) (placeOf p .longitude)
-    && Bool·beq (isNone p) (noneMark (fieldOf 0x800000 (placeOf p .latitude)) (fieldOf 0x800000 (placeOf p .longitude)) integrity)
+    && Bool·beq (isNone p) (isZero (placeOf p .latitude) && isZero (placeOf p .longitude) && eqb integrity 0)
 
 -- the fields that are plain numbers
 abbrev pub withinBits : Report → Bool

@@ -106,11 +106,7 @@ fn is_good_position(position: Position, integrity: u8) -> bool
     ensures { λ r. ⌜ r ≡ goodPosition position integrity ⌝ }
 {
     let at = place_of(position);
-    let none = none_mark(
-        field_of(at.latitude, 0x800000),
-        field_of(at.longitude, 0x800000),
-        integrity,
-    );
+    let none = is_between(at.latitude, 0, 0) & is_between(at.longitude, 0, 0) & (integrity == 0);
     is_between(at.latitude, -4194304, 4194304)
         & is_between(at.longitude, -8388608, 8388607)
         & (is_none(position) == none)
