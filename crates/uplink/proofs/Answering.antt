@@ -1,0 +1,35 @@
+-- From what one walk finds to the answers.
+-- Assumes nothing.
+use mathlib.Core.Path.{_≡_}
+use mathlib.Core.Bool.{cond}
+use Prim.Native.Nat.{ℕ}
+use lib.Dec.{ltb}
+use Rattle.uplink.specs.declared.Frame.{Frame}
+use Rattle.uplink.specs.declared.Listing.the-variants as list
+use Rattle.uplink.specs.declared.Found.the-variants as nth
+use Rattle.uplink.specs.declared.Walked.{Walked}
+use Rattle.uplink.specs.declared.Walked.the-variants.{Listed, Refused}
+use Rattle.uplink.specs.Walk.{Frames, listed, refused}
+use Rattle.uplink.specs.Answers.{counted, numbered, scanned}
+use Rattle.uplink.specs.Claims.{framesIn}
+
+module _ (n : ℕ) {k e : ℕ} {f : Frame} {r : Walked} where
+  pub list-is : (L : Frames) → r ≡ Listed k e f → r ≡ scanned n L → L ≡ listed (framesIn L) e
+  unfolding scanned
+  list-is (listed fs end) g h = cc
+  list-is (refused x) g h = cc
+
+  pub count-is : (L : Frames) → r ≡ Listed k e f → r ≡ scanned n L → list.Frames k e ≡ counted L
+  unfolding scanned counted
+  count-is (listed fs end) g h = cc
+  count-is (refused x) g h = cc
+
+  pub found-is : (L : Frames) → r ≡ Listed k e f → r ≡ scanned n L → cond (ltb n k) (nth.Frame f) (nth.Refused 13) ≡ numbered L n
+  unfolding scanned numbered
+  found-is (listed fs end) g h = cc
+  found-is (refused x) g h = cc
+
+pub refused-is : (n : ℕ) {k : ℕ} {r : Walked} (L : Frames) → r ≡ Refused k → r ≡ scanned n L → L ≡ refused k
+unfolding scanned
+refused-is n (listed fs end) g h = cc
+refused-is n (refused x) g h = cc

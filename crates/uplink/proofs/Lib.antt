@@ -1,0 +1,6 @@
+pub mod Walking
+pub mod Scanning
+pub mod Answering
+pub mod Rows
+pub mod Filling
+pub mod Putting

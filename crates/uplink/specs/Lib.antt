@@ -1,0 +1,5 @@
+pub mod Frames
+pub mod Walk
+pub mod Answers
+pub mod Adding
+pub mod Claims

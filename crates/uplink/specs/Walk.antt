@@ -1,0 +1,40 @@
+-- The list of the information frames of an uplink payload (01 'Uplink payloads').
+-- Assumes nothing.
+use Prim.Native.Nat.{ℕ, zero, suc}
+use mathlib.Core.Bool.{cond}
+use mathlib.Core.List.{List, [], _∷_, _++_}
+use lib.Dec.{eqb, ltb}
+use lib.ListN.{length, getD, drop}
+use Rattle.numbers.specs.Bits.{bit}
+use Rattle.uplink.specs.declared.Frame.{Frame}
+use Rattle.uplink.specs.Frames.{lengthIn, headed}
+
+-- the frames, and the byte of the application data at which their list ends; or 01's number of a refusal
+pub data Frames : Type 0 where
+  listed : List Frame → ℕ → Frames
+  refused : ℕ → Frames
+
+-- frames before those of a list; one refused frame refuses them all
+unfoldable pub before : List Frame → Frames → Frames
+before fs (listed gs end) = listed (fs ++ gs) end
+before fs (refused k) = refused k
+
+-- the list from byte `at` on, of which the bytes are given and the first `skip` are data of the frame before. Fewer than two bytes
+-- left, or length 0, ends it; at each header 11, then 12
+unfoldable pub walk : ℕ → ℕ → List ℕ → Frames
+walk at skip [] = listed [] at
+walk at (suc skip) (x ∷ xs) = walk (suc at) skip xs
+walk at zero (a ∷ []) = listed [] at
+walk at zero (a ∷ b ∷ xs) =
+    cond (eqb (lengthIn a b) 0) (listed [] at)
+    (cond (ltb (length xs) (lengthIn a b)) (refused 11)
+    (cond (ltb 422 (lengthIn a b)) (refused 12)
+    (before (headed at a b ∷ []) (walk (suc (suc at)) (lengthIn a b) xs))))
+
+-- bit 5 of the seventh header byte
+abbrev pub validBit : List ℕ → ℕ
+validBit p = bit 5 (getD p 6 0)
+
+-- the list of a payload: 7 unless it has 432 bytes; where its data are not valid, an empty list that ends at byte 0
+unfoldable pub listing : List ℕ → Frames
+listing p = cond (eqb (length p) 432) (cond (eqb (validBit p) 1) (walk 0 0 (drop 8 p)) (listed [] 0)) (refused 7)

@@ -1,0 +1,196 @@
+// The information frames of an uplink payload (001 §4; 01 'Uplink payloads'): 8 bytes of header, then 424 of application data.
+ghost use mathlib.Core.Path.{_≡_};
+ghost use mathlib.Core.Bool.{cond};
+ghost use mathlib.Core.List.{_++_};
+ghost use Prim.Native.Nat.{_+_, _-_, _≤_};
+ghost use lib.ListN.{length, getD, take, replicate};
+ghost use Rattle.uplink.specs.Frames.{headed, withValidBit};
+ghost use Rattle.uplink.specs.Walk.{listing};
+ghost use Rattle.uplink.specs.Answers.{scanned, counted, numbered, dataOf};
+ghost use Rattle.uplink.specs.Adding.{isGood, withFrame, Adds};
+
+pub struct Frame {
+    // the byte of the application data at which its header of two bytes starts
+    pub at: usize,
+    // the bytes of data behind its header
+    pub length: usize,
+    pub reserved: u8,
+    // its type
+    pub kind: u8,
+}
+
+pub enum Listing {
+    // how many frames, and the byte of the application data at which their list ends
+    Frames { count: usize, end: usize },
+    // 01's number: 7, payload not 432 bytes; 11, a frame runs past the application data; 12, a length over 422
+    Refused(u8),
+}
+
+pub enum Found {
+    Frame(Frame),
+    // 01's number: 7, 11, 12 as in a listing; 13, no frame with that number
+    Refused(u8),
+}
+
+pub enum Added {
+    Done,
+    // 01's number: 7, 11, 12 as in a listing; 8, a type over 15 or data not of 1 to 422 bytes; 9, no room
+    Refused(u8),
+}
+
+// What one walk finds: how many frames, the list's end, and the frame that was asked for.
+enum Walked {
+    Listed(usize, usize, Frame),
+    Refused(u8),
+}
+
+pub fn list(payload: &[u8]) -> Listing
+    ensures { λ r. ⌜ r ≡ counted (listing (now (payload .entry))) ⌝ }
+{
+    match scan(payload, 0) {
+        Walked::Listed(count, end, _) => Listing::Frames { count, end },
+        Walked::Refused(k) => Listing::Refused(k),
+    }
+}
+
+// Frame n, numbered from 0.
+pub fn nth(payload: &[u8], n: usize) -> Found
+    ensures { λ r. ⌜ r ≡ numbered (listing (now (payload .entry))) n ⌝ }
+{
+    match scan(payload, n) {
+        Walked::Listed(count, _, frame) => {
+            if n < count {
+                Found::Frame(frame)
+            } else {
+                Found::Refused(13)
+            }
+        }
+        Walked::Refused(k) => Found::Refused(k),
+    }
+}
+
+// The data of frame n, in the caller's own memory; an empty part on a refusal.
+pub fn data<'a>(payload: &'a [u8], n: usize) -> &'a [u8]
+    ensures { λ r. ⌜ now r ≡ dataOf (now (payload .entry)) (numbered (listing (now (payload .entry))) n) ⌝ }
+{
+    match nth(payload, n) {
+        Found::Frame(f) => {
+            let start = f.at + 10;
+            let end = start + f.length;
+            &payload[start..end]
+        }
+        Found::Refused(_) => &payload[0..0],
+    }
+}
+
+// One frame more at the list's end.
+pub fn add(payload: &mut [u8], kind: u8, given: &[u8]) -> Added
+    ensures { λ r. ⌜ Adds (now (payload .entry)) kind (now (given .entry)) r (now (payload .exit)) ⌝ }
+{
+    match scan(payload, 0) {
+        Walked::Listed(_, end, _) => {
+            let n = given.len();
+            if !is_good(kind, n) {
+                return Added::Refused(8);
+            }
+            if 424 < end + 2 + n {
+                return Added::Refused(9);
+            }
+            put(payload, end, kind, given);
+            Added::Done
+        }
+        Walked::Refused(k) => Added::Refused(k),
+    }
+}
+
+fn scan(payload: &[u8], n: usize) -> Walked
+    ensures { λ r. ⌜ r ≡ scanned n (listing (now (payload .entry))) ⌝ }
+{
+    let mut frame = header(0, 0, 0);
+    if payload.len() != 432 {
+        return Walked::Refused(7);
+    }
+    if payload[6] / 32 % 2 != 1 {
+        return Walked::Listed(0, 0, frame);
+    }
+    let mut at = 0;
+    let mut count = 0;
+    while at < 423 {
+        let f = header(at, payload[at + 8], payload[at + 9]);
+        let size = f.length;
+        if size == 0 {
+            return Walked::Listed(count, at, frame);
+        }
+        if 422 - at < size {
+            return Walked::Refused(11);
+        }
+        if 422 < size {
+            return Walked::Refused(12);
+        }
+        frame = kept(count == n, f, frame);
+        count += 1;
+        at += size + 2;
+    }
+    Walked::Listed(count, at, frame)
+}
+
+// The frame at byte `at` whose header is the bytes a and b.
+fn header(at: usize, a: u8, b: u8) -> Frame
+    ensures { λ r. ⌜ r ≡ headed at a b ⌝ }
+{
+    Frame {
+        at,
+        length: (a as usize) * 2 + (b as usize) / 128,
+        reserved: b / 16 % 8,
+        kind: b % 16,
+    }
+}
+
+// The frame to remember: this one where it is the one asked for.
+fn kept(this: bool, f: Frame, g: Frame) -> Frame
+    ensures { λ r. ⌜ r ≡ cond this f g ⌝ }
+{
+    if this { f } else { g }
+}
+
+fn is_good(kind: u8, n: usize) -> bool
+    ensures { λ r. ⌜ r ≡ isGood kind n ⌝ }
+{
+    (kind <= 15) & (1 <= n) & (n <= 422)
+}
+
+// A frame at byte `end`, zeros behind it, and the valid bit set.
+fn put(payload: &mut [u8], end: usize, kind: u8, given: &[u8])
+    requires { ⌜ (length (now payload) ≡ 432) × (end + 2 + length (now given) ≤ 424) × (kind ≤ 15) ⌝ }
+    ensures { λ _. ⌜ now (payload .exit) ≡ withFrame (now (payload .entry)) end kind (now (given .entry)) ⌝ }
+{
+    let n = given.len();
+    payload[6] = with_valid_bit(payload[6]);
+    payload[end + 8] = (n / 2) as u8;
+    payload[end + 9] = (n % 2 * 128) as u8 + kind;
+    fill_from(payload, end + 10, given);
+}
+
+fn with_valid_bit(b: u8) -> u8
+    ensures { λ r. ⌜ r ≡ withValidBit b ⌝ }
+{
+    b + (1 - b / 32 % 2) * 32
+}
+
+// The bytes from byte `at` on, and zeros behind them.
+fn fill_from(s: &mut [u8], at: usize, bytes: &[u8])
+    requires { ⌜ at + length (now bytes) ≤ length (now s) ⌝ }
+    ensures { λ _. ⌜ now (s .exit) ≡ take at (now (s .entry)) ++ (now (bytes .entry) ++ replicate (length (now (s .entry)) - (at + length (now (bytes .entry)))) 0) ⌝ }
+{
+    let mut i = at;
+    while i < s.len() {
+        s[i] = byte_or_zero(bytes, i - at);
+        i += 1;
+    }
+}
+
+fn byte_or_zero(bytes: &[u8], i: usize) -> u8
+    ensures { λ r. ⌜ r ≡ getD (now (bytes .entry)) i 0 ⌝ }
+{
+    if i < bytes.len() { bytes[i] } else { 0 }
+}
