@@ -21,36 +21,37 @@ filled-at k (b ∷ bytes) (suc j) = filled-at k bytes j
 
 module _ (s₀ bytes : List ℕ) (at : ℕ) where
   abbrev whole : List ℕ
-  whole = filled (length s₀ - (at + length bytes)) bytes
+  whole = filled (432 - (at + length bytes)) bytes
 
-  -- what stands before byte i, and what is left to store from there on
+  -- what stands before byte i, with what is left to store from there on
   pub record Filled (s : List ℕ) (i : ℕ) : Type 0 where
     pub from : at ≤ i
-    pub to : i ≤ length s
-    pub size : length s ≡ length s₀
+    pub to : i ≤ 432
+    pub size : length s ≡ 432
     pub rest : take i s ++ drop (i - at) whole ≡ take at s₀ ++ whole
 
-  pub none-filled : at ≤ length s₀ → Filled s₀ at
-  none-filled h =
-      let zero : at - at ≡ 0 = omega arith in
-      record { from = omega arith; to = h; size = refl; rest = rw zero }
+  module _ (fits : at + length bytes ≤ 432) where
+    long : length whole ≡ 432 - at
+    long = omega (arith, length-append bytes (replicate (432 - (at + length bytes)) 0), length-replicate {A = ℕ} (432 - (at + length bytes)) 0)
 
-  module _ {s : List ℕ} {i : ℕ} (fits : at + length bytes ≤ length s₀) (f : Filled s i) where
-    long : length whole ≡ length s₀ - at
-    long = omega (arith, length-append bytes (replicate (length s₀ - (at + length bytes)) 0), length-replicate {A = ℕ} (length s₀ - (at + length bytes)) 0)
+    pub none-filled : length s₀ ≡ 432 → Filled s₀ at
+    none-filled h =
+        let zero : at - at ≡ 0 = omega arith in
+        record { from = omega arith; to = omega arith; size = h; rest = rw zero }
 
-    pub one-filled : (b : ℕ) → b ≡ getD bytes (i - at) 0 → i < length s → Filled (set s i b) (i + 1)
-    one-filled b e h =
-        let next : i + 1 - at ≡ suc (i - at) = omega (arith, f .from) in
-        record {
-          from = omega (arith, f .from);
-          to = simp length-set (omega arith);
-          size = simp length-set (f .size);
-          rest =
-              rw (next, add-one, take-suc-set s i b h, append-snoc, e, filled-at (length s₀ - (at + length bytes)) bytes (i - at), ← drop-cons whole (i - at) 0 (omega (arith, long, f .from, f .size)))
-              (f .rest);
-        }
+    module _ {s : List ℕ} {i : ℕ} (f : Filled s i) where
+      pub one-filled : (b : ℕ) → b ≡ getD bytes (i - at) 0 → i < 432 → Filled (set s i b) (i + 1)
+      one-filled b e h =
+          let next : i + 1 - at ≡ suc (i - at) = omega (arith, f .from) in
+          record {
+            from = omega (arith, f .from);
+            to = omega arith;
+            size = simp length-set (f .size);
+            rest =
+                rw (next, add-one, take-suc-set s i b (omega (arith, f .size)), append-snoc, e, filled-at (432 - (at + length bytes)) bytes (i - at), ← drop-cons whole (i - at) 0 (omega (arith, long, f .from)))
+                (f .rest);
+          }
 
-    pub all-filled : length s ≤ i → s ≡ take at s₀ ++ whole
-    all-filled h =
-        sym (rw (take-all i s h, drop-of-length-le whole {i = i - at} (omega (arith, long, f .size)), append-nil)) ∙ f .rest
+      pub all-filled : 432 ≤ i → s ≡ take at s₀ ++ whole
+      all-filled h =
+          sym (rw (take-all i s (omega (arith, f .size)), drop-of-length-le whole {i = i - at} (omega (arith, long)), append-nil)) ∙ f .rest

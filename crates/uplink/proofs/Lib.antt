@@ -4,3 +4,5 @@ pub mod Answering
 pub mod Rows
 pub mod Filling
 pub mod Putting
+pub mod Growing
+pub mod Claimed

@@ -19,14 +19,14 @@ use Rattle.uplink.specs.Adding.{isGood, adding, withFrame, Adds}
 module _ (p : List ℕ) (end kind : ℕ) (xs : List ℕ) where
   pub put-is : (v : ℕ) (s : List ℕ) → length p ≡ 432 → end + 2 + length xs ≤ 424 → v ≡ withValidBit (getD p 6 0)
       → (q : List ℕ) → q ≡ set (set (set p 6 v) (end + 8) (length xs / 2)) (end + 9) (length xs % 2 * 128 + kind)
-      → s ≡ take (end + 10) q ++ (xs ++ replicate (length q - (end + 10 + length xs)) 0) → s ≡ withFrame p end kind xs
+      → s ≡ take (end + 10) q ++ (xs ++ replicate (432 - (end + 10 + length xs)) 0) → s ≡ withFrame p end kind xs
   unfolding withFrame frameBytes
   put-is v s size fits i q j e =
       let a = length xs / 2 in
       let b = length xs % 2 * 128 + kind in
       let nine : end + 9 ≡ suc (end + 8) = omega arith in
       let ten : end + 10 ≡ suc (end + 9) = omega arith in
-      let zeros : length q - (end + 10 + length xs) ≡ 424 - (end + 2 + length xs) = rw j (simp length-set (omega arith)) in
+      let zeros : 432 - (end + 10 + length xs) ≡ 424 - (end + 2 + length xs) = omega arith in
       let last : take (end + 10) q ≡ take (end + 9) (set (set p 6 v) (end + 8) a) ++ (b ∷ []) =
       rw (j, ten) (take-suc-set (set (set p 6 v) (end + 8) a) (end + 9) b (simp length-set (omega arith))) in
       let first : take (end + 9) (set (set p 6 v) (end + 8) a) ≡ take (end + 8) (set p 6 v) ++ (a ∷ []) =

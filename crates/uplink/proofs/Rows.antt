@@ -16,7 +16,7 @@ use Rattle.uplink.specs.Walk.{Frames, listed, refused, before, walk, val
 use Rattle.uplink.specs.Answers.{counted, numbered, none}
 use Rattle.uplink.specs.Adding.{endOf}
 use Rattle.uplink.specs.Claims.{framesIn, AtMost141, Inside, Apart}
-use Rattle.uplink.proofs.Walking.{every-walk}
+use Rattle.uplink.proofs.Walking.{every-walk, every-listing}
 
 -- from byte `at` up to byte `end`
 unfoldable pub InRow : ℕ → List Frame → ℕ → Type 0
@@ -42,17 +42,12 @@ Sound p (listed fs end) = (length p ≡ 432) × InRow 0 fs end × (end ≤ 424)
 Sound p (refused k) = Unit {0}
 
 sound : (p : List ℕ) → Sound p (listing p)
-unfolding listing Sound InRow Within
-sound p = go (eqb (length p) 432) refl (eqb (validBit p) 1)
+unfolding Sound InRow Within
+sound p = every-listing p (Sound p) (λ h. inside h (walk 0 0 (drop 8 p)) (within 0 (drop 8 p))) (λ h. (h, refl, omega arith)) tt
   where
     inside : length p ≡ 432 → (w : Frames) → Within 0 (drop 8 p) w → Sound p w
     inside h (listed fs end) r = (h, r .0, omega (arith, r .1, length-drop 8 p))
     inside h (refused k) r = tt
-
-    go : (t : Bool) → eqb (length p) 432 ≡ t → (u : Bool) → Sound p (cond t (cond u (walk 0 0 (drop 8 p)) (listed [] 0)) (refused 7))
-    go true e true = inside (eqb-true (length p) 432 e) (walk 0 0 (drop 8 p)) (within 0 (drop 8 p))
-    go true e false = (eqb-true (length p) 432 e, refl, omega arith)
-    go false e u = tt
 
 -- a payload that lists frames has 432 bytes, and its frames are in a row within 424
 pub in-row : (p : List ℕ) {fs : List Frame} {end : ℕ} → listing p ≡ listed fs end → (length p ≡ 432) × InRow 0 fs end × (end ≤ 424)

@@ -8,10 +8,10 @@ use native.Mathlib.Omega.{arith}
 use native.Mathlib.Nat.{add-zero}
 use lib.Dec.{eqb, ltb}
 use lib.ListN.{length, drop}
-use borrow.Author.Tests.{eq-eqb, ne-eqb, lt-ltb, le-ltb, eqb-false, ltb-false}
+use borrow.Author.Tests.{eq-eqb, ne-eqb, lt-ltb, le-ltb, eqb-true, eqb-false, ltb-false}
 use Rattle.uplink.specs.declared.Frame.{Frame}
 use Rattle.uplink.specs.Frames.{lengthIn, headed}
-use Rattle.uplink.specs.Walk.{Frames, listed, refused, before, walk}
+use Rattle.uplink.specs.Walk.{Frames, listed, refused, before, walk, validBit, listing}
 
 pub before-none : (w : Frames) → before [] w ≡ w
 unfolding before
@@ -96,3 +96,14 @@ module _ (P : ℕ → List ℕ → Frames → Type 0)
 
   pub every-walk : (at : ℕ) (xs : List ℕ) → P at xs (walk at 0 xs)
   every-walk at xs = rw add-zero at (every at 0 xs (omega arith))
+
+-- what holds of the walk over the application data, of the empty list and of the refusal holds of a payload's list
+module _ (p : List ℕ) (P : Frames → Type 0) (valid : length p ≡ 432 → P (walk 0 0 (drop 8 p))) (empty : length p ≡ 432 → P (listed [] 0)) (refuse : P (refused 7)) where
+  pub every-listing : P (listing p)
+  unfolding listing
+  every-listing = go (eqb (length p) 432) refl (eqb (validBit p) 1)
+    where
+      go : (t : Bool) → eqb (length p) 432 ≡ t → (u : Bool) → P (cond t (cond u (walk 0 0 (drop 8 p)) (listed [] 0)) (refused 7))
+      go true e true = valid (eqb-true (length p) 432 e)
+      go true e false = empty (eqb-true (length p) 432 e)
+      go false e u = refuse

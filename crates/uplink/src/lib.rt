@@ -178,13 +178,13 @@ fn with_valid_bit(b: u8) -> u8
 }
 
 // The bytes from byte `at` on, and zeros behind them.
-fn fill_from(s: &mut [u8], at: usize, bytes: &[u8])
-    requires { ⌜ at + length (now bytes) ≤ length (now s) ⌝ }
-    ensures { λ _. ⌜ now (s .exit) ≡ take at (now (s .entry)) ++ (now (bytes .entry) ++ replicate (length (now (s .entry)) - (at + length (now (bytes .entry)))) 0) ⌝ }
+fn fill_from(payload: &mut [u8], at: usize, bytes: &[u8])
+    requires { ⌜ (length (now payload) ≡ 432) × (at + length (now bytes) ≤ 432) ⌝ }
+    ensures { λ _. ⌜ now (payload .exit) ≡ take at (now (payload .entry)) ++ (now (bytes .entry) ++ replicate (432 - (at + length (now (bytes .entry)))) 0) ⌝ }
 {
     let mut i = at;
-    while i < s.len() {
-        s[i] = byte_or_zero(bytes, i - at);
+    while i < 432 {
+        payload[i] = byte_or_zero(bytes, i - at);
         i += 1;
     }
 }

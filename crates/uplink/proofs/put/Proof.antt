@@ -46,7 +46,7 @@ add-fill-from : tie.Need-add-fill-from
 add-fill-from c = search needs
 
 fill-from-requires : tie.Need-fill-from-requires
-fill-from-requires c κs = simp length-set (omega arith)
+fill-from-requires c κs = simp length-set (omega arith, omega arith)
 
 same-length : tie.Need-same-length
 same-length c = c .before .before .fill-from .kept .0 ∙ simp length-set
