@@ -1,6 +1,6 @@
 -- The claims on listing and adding.
 -- Assumes nothing.
-use mathlib.Core.Path.{_≡_, refl, sym, ap, subst, _∙_}
+use mathlib.Core.Path.{_≡_, refl, _∙_}
 use mathlib.Core.Bool.{Bool, true, false, cond}
 use mathlib.Core.List.{List, [], _∷_, _++_, map, append-assoc, append-nil}
 use Prim.Native.Nat.{ℕ, _+_, _≤_}
@@ -12,10 +12,11 @@ use Rattle.numbers.specs.Bits.{bit}
 use Rattle.uplink.specs.declared.Frame.{Frame}
 use Rattle.uplink.specs.declared.Added.the-variants.{Done, Refused}
 use Rattle.uplink.specs.Frames.{lengthIn, headed}
-use Rattle.uplink.specs.Walk.{Frames, listed, refused, before, walk, listing}
+use Rattle.uplink.specs.Walk.{listed, before, walk, listing}
 use Rattle.uplink.specs.Answers.{counted}
-use Rattle.uplink.specs.Adding.{isGood, adding, withFrame, Adds}
-use Rattle.uplink.specs.Claims.{Fixed, Content, contentOf, framesIn, contents, newFrame, given, AddedListed, AllAdded, nothing, also, AllAddedListed, Values}
+use Rattle.uplink.specs.Adding.{isGood, adding, withFrame}
+use Rattle.uplink.specs.Claims.{Fixed, Content, contentOf, contents, newFrame, AddedListed, AllAdded, nothing, also, AllAddedListed, Values}
+use Rattle.uplink.specs.Samples.{bytesOf, rows, graphical1, graphical2, textual, Samples}
 use Rattle.uplink.proofs.Rows.{InRow, row-le, in-row}
 use Rattle.uplink.proofs.Putting.{good}
 use Rattle.uplink.proofs.Growing.{grown, old-data, new-data}
@@ -71,3 +72,7 @@ all-added-listed p q cs end is a = added p q cs a [] end is ∙ rw is
 pub values : Values
 unfolding counted listing walk before headed lengthIn bit
 values = (refl, refl, refl, refl)
+
+pub samples : Samples
+unfolding counted listing walk before headed lengthIn bit bytesOf rows graphical1 graphical2 textual
+samples = (refl, refl, refl, refl, refl, refl)

@@ -1,13 +1,11 @@
 -- A list of frames with one more at its end.
 -- Assumes nothing.
-use mathlib.Core.Path.{_≡_, refl, sym, ap, subst, _∙_}
-use mathlib.Core.Bool.{Bool, true, false, cond}
+use mathlib.Core.Path.{_≡_, refl, sym, subst, _∙_}
 use mathlib.Core.List.{List, [], _∷_, _++_, append-assoc}
 use Prim.Native.Nat.{ℕ, zero, suc, _+_, _-_, _*_, _/_, _%_, _<_, _≤_}
 use native.Mathlib.Omega.{arith}
-use lib.Dec.{eqb}
 use lib.ListN.{length, getD, take, drop, set, replicate, length-append, length-drop, length-set, length-replicate, List·getD-append, take-append-drop}
-use lib.Seq.{take-add, take-at, drop-at, length-take-le, drop-append-seam, drop-append-le, drop-append-add, drop-set-lt, getD-set-same, getD-take, take-append-le, take-append-seam}
+use lib.Seq.{take-add, drop-at, length-take-le, drop-append-seam, drop-append-le, drop-append-add, drop-set-lt, getD-set-same, getD-take, take-append-le, take-append-seam}
 use borrow.Author.Tests.{eq-eqb}
 use Rattle.numbers.specs.Bits.{bit}
 use Rattle.uplink.specs.declared.Frame.{Frame}
@@ -17,7 +15,6 @@ use Rattle.uplink.specs.Answers.{dataIn}
 use Rattle.uplink.specs.Adding.{withFrame}
 use Rattle.uplink.specs.Claims.{newFrame}
 use Rattle.uplink.proofs.Walking.{before-none, before-both, before-end, short, ended, more, every-walk, every-listing}
-use Rattle.uplink.proofs.Rows.{in-row}
 
 -- the bytes up to a list's end, followed by others, list its frames and then those of the others
 Grows : ℕ → List ℕ → Frames → Type 0

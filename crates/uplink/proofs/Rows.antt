@@ -1,18 +1,18 @@
 -- The frames of a list: one directly after the other, each with some data, all inside the application data.
 -- Assumes nothing.
-use mathlib.Core.Path.{_≡_, refl, sym, ap, subst, _∙_}
+use mathlib.Core.Path.{_≡_, refl, subst}
 use mathlib.Core.Bool.{Bool, true, false, cond}
 use mathlib.Core.List.{List, [], _∷_}
 use Prim.Native.Nat.{ℕ, zero, suc, _+_, _*_, _<_, _≤_}
 use native.Mathlib.Omega.{arith}
-use lib.Dec.{eqb, ltb}
+use lib.Dec.{ltb}
 use lib.ListN.{length, getD, drop, length-drop}
-use borrow.Author.Tests.{ltb-true, eqb-true}
+use borrow.Author.Tests.{ltb-true}
 use Rattle.uplink.specs.declared.Frame.{Frame}
 use Rattle.uplink.specs.declared.Found.the-variants as nth
 use Rattle.uplink.specs.declared.Listing.the-variants as list
 use Rattle.uplink.specs.Frames.{lengthIn, headed}
-use Rattle.uplink.specs.Walk.{Frames, listed, refused, before, walk, validBit, listing}
+use Rattle.uplink.specs.Walk.{Frames, listed, refused, before, walk, listing}
 use Rattle.uplink.specs.Answers.{counted, numbered, none}
 use Rattle.uplink.specs.Adding.{endOf}
 use Rattle.uplink.specs.Claims.{framesIn, AtMost141, Inside, Apart}
@@ -101,13 +101,13 @@ apart p i j f g l x y =
     let b = found (listing p) j g y in
     rw (a .2, b .2) (row-apart 0 _ _ i j (in-row p (a .0) .1) l (b .1))
 
-pub at-most-141 : AtMost141
+counted-is : (L : Frames) {n end : ℕ} → counted L ≡ list.Frames n end → (L ≡ listed (framesIn L) end) × (length (framesIn L) ≡ n)
 unfolding counted
-at-most-141 p n last = go (listing p) refl
-  where
-    go : (L : Frames) → listing p ≡ L → counted L ≡ list.Frames n last → n ≤ 141
-    go (listed fs end) e h =
-        let s = in-row p e in
-        let c : length fs ≡ n = cc in
-        omega (arith, row-le 0 fs end (s .1), s .2)
-    go (refused k) e h = absurd (let z : _≡_ {A = ℕ} 0 1 = cc in omega arith)
+counted-is (listed fs end) h = (cc, cc)
+counted-is (refused k) h = (cc, cc)
+
+pub at-most-141 : AtMost141
+at-most-141 p n end h =
+    let c = counted-is (listing p) h in
+    let s = in-row p (c .0) in
+    omega (arith, row-le 0 _ end (s .1), s .2, c .1)

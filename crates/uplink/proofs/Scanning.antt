@@ -12,7 +12,7 @@ use borrow.Author.Tests.{eq-eqb, ne-eqb}
 use Rattle.uplink.specs.declared.Frame.{Frame}
 use Rattle.uplink.specs.declared.Walked.the-variants.{Listed, Refused}
 use Rattle.uplink.specs.Frames.{lengthIn, headed}
-use Rattle.uplink.specs.Walk.{Frames, listed, refused, before, walk, validBit, listing}
+use Rattle.uplink.specs.Walk.{listed, refused, before, walk, validBit, listing}
 use Rattle.uplink.specs.Answers.{scanned, none}
 use Rattle.uplink.proofs.Walking.{before-none, before-both, before-end, short, ended, past, long, more}
 

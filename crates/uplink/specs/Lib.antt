@@ -3,3 +3,4 @@ pub mod Walk
 pub mod Answers
 pub mod Adding
 pub mod Claims
+pub mod Samples

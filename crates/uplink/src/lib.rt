@@ -84,19 +84,19 @@ pub fn data<'a>(payload: &'a [u8], n: usize) -> &'a [u8]
 }
 
 // One frame more at the list's end.
-pub fn add(payload: &mut [u8], kind: u8, given: &[u8]) -> Added
-    ensures { λ r. ⌜ Adds (now (payload .entry)) kind (now (given .entry)) r (now (payload .exit)) ⌝ }
+pub fn add(payload: &mut [u8], kind: u8, bytes: &[u8]) -> Added
+    ensures { λ r. ⌜ Adds (now (payload .entry)) kind (now (bytes .entry)) r (now (payload .exit)) ⌝ }
 {
     match scan(payload, 0) {
         Walked::Listed(_, end, _) => {
-            let n = given.len();
+            let n = bytes.len();
             if !is_good(kind, n) {
                 return Added::Refused(8);
             }
             if 424 < end + 2 + n {
                 return Added::Refused(9);
             }
-            put(payload, end, kind, given);
+            put(payload, end, kind, bytes);
             Added::Done
         }
         Walked::Refused(k) => Added::Refused(k),
@@ -160,15 +160,15 @@ fn is_good(kind: u8, n: usize) -> bool
 }
 
 // A frame at byte `end`, zeros behind it, and the valid bit set.
-fn put(payload: &mut [u8], end: usize, kind: u8, given: &[u8])
-    requires { ⌜ (length (now payload) ≡ 432) × (end + 2 + length (now given) ≤ 424) × (kind ≤ 15) ⌝ }
-    ensures { λ _. ⌜ now (payload .exit) ≡ withFrame (now (payload .entry)) end kind (now (given .entry)) ⌝ }
+fn put(payload: &mut [u8], end: usize, kind: u8, bytes: &[u8])
+    requires { ⌜ (length (now payload) ≡ 432) × (end + 2 + length (now bytes) ≤ 424) × (kind ≤ 15) ⌝ }
+    ensures { λ _. ⌜ now (payload .exit) ≡ withFrame (now (payload .entry)) end kind (now (bytes .entry)) ⌝ }
 {
-    let n = given.len();
+    let n = bytes.len();
     payload[6] = with_valid_bit(payload[6]);
     payload[end + 8] = (n / 2) as u8;
     payload[end + 9] = (n % 2 * 128) as u8 + kind;
-    fill_from(payload, end + 10, given);
+    fill_from(payload, end + 10, bytes);
 }
 
 fn with_valid_bit(b: u8) -> u8

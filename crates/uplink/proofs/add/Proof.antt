@@ -39,7 +39,7 @@ add-if2-2 c =
     let l = list-is 0 _ (c .before .before .before .end .given .1) (c .before .before .before .before .before .scan .ensures) in
     let s = in-row _ l in
     let a = c .before .before .before .before .before .before .before .before .before .args in
-    let g = good (a .kind) (length (a .given .now)) (sym (c .before .is-good .ensures) ∙ not-false _ (c .if1 .left)) in
+    let g = good (a .kind) (length (a .bytes .now)) (sym (c .before .is-good .ensures) ∙ not-false _ (c .if1 .left)) in
     omega arith
 
 same-length-2 : tie.Need-same-length-2
@@ -48,14 +48,14 @@ same-length-2 c = search needs
 returns-2 : tie.Need-returns-2
 returns-2 c =
     let l = list-is 0 _ (c .before .before .before .before .end .given .1) (c .before .before .before .before .before .before .scan .ensures) in
-    add-full _ _ _ _ _ l (sym (c .before .before .is-good .ensures) ∙ not-false _ (c .before .if1 .left)) (c .if2 .taken)
+    add-full _ _ _ _ _ l (sym (c .before .before .is-good .ensures) ∙ not-false _ (c .before .if1 .left)) (omega arith)
 
 put-requires : tie.Need-put-requires
 put-requires c κs =
     let l = list-is 0 _ (c .before .before .before .before .before .end .given .1) (c .before .before .before .before .before .before .before .scan .ensures) in
     let s = in-row _ l in
     let a = c .before .before .before .before .before .before .before .before .before .before .before .args in
-    let g = good (a .kind) (length (a .given .now)) (sym (c .before .before .before .is-good .ensures) ∙ not-false _ (c .before .before .if1 .left)) in
+    let g = good (a .kind) (length (a .bytes .now)) (sym (c .before .before .before .is-good .ensures) ∙ not-false _ (c .before .before .if1 .left)) in
     (s .0, omega arith, g .0)
 
 enum-known-k : tie.Need-enum-known-k
@@ -67,7 +67,7 @@ same-length-3 c = search needs
 returns-3 : tie.Need-returns-3
 returns-3 c =
     let l = list-is 0 _ (c .before .before .before .before .before .before .before .before .end .given .1) (c .before .before .before .before .before .before .before .before .before .before .scan .ensures) in
-    add-done _ _ _ _ _ l (sym (c .before .before .before .before .before .before .is-good .ensures) ∙ not-false _ (c .before .before .before .before .before .if1 .left)) (c .before .before .before .before .if2 .left) _ (c .before .before .put .ensures)
+    add-done _ _ _ _ _ l (sym (c .before .before .before .before .before .before .is-good .ensures) ∙ not-false _ (c .before .before .before .before .before .if1 .left)) (omega arith) _ (c .before .before .put .ensures)
 
 same-length-4 : tie.Need-same-length-4
 same-length-4 c = search needs

@@ -1,6 +1,5 @@
 -- `uplink::list` meets its contract.
 -- Assumes nothing.
-use mathlib.Core.Path.{sym}
 use Rattle.uplink.specs.Answers.{counted}
 use Rattle.uplink.proofs.Answering.{count-is, refused-is}
 use borrow.Author.Needs.{needs}

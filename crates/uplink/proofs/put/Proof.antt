@@ -56,7 +56,7 @@ returns c =
     let f = c .before .before in
     let v = f .before .before in
     let s = v .before .before .before .before in
-    put-is (now (s .args .payload)) (s .args .end) (s .args .kind) (now (s .args .given)) (v .with-valid-bit .result) _ (s .pre .0) (s .pre .1) (v .with-valid-bit .ensures) _ refl (f .fill-from .ensures)
+    put-is (now (s .args .payload)) (s .args .end) (s .args .kind) (now (s .args .bytes)) (v .with-valid-bit .result) _ (s .pre .0) (s .pre .1) (v .with-valid-bit .ensures) _ refl (f .fill-from .ensures)
 
 pub put-spec : {M : Type 1} → statement M
 put-spec =

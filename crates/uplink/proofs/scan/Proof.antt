@@ -27,13 +27,13 @@ returns-2 : tie.Need-returns-2 Inv-loop μ-loop
 unfolding bit
 returns-2 c =
     let h = c .before .before .before in
-    not-valid _ _ (h .header .result) (h .header .ensures) (c .before .before .if1 .left) (c .if2 .taken)
+    not-valid _ _ (h .header .result) (h .header .ensures) (omega arith) (λ e. omega arith)
 
 loop-holds : tie.Need-loop-holds Inv-loop μ-loop
 unfolding bit
 loop-holds c =
     let h = c .before .before .before in
-    start _ _ (h .header .result) (h .header .ensures) (c .before .before .if1 .left) (c .if2 .left)
+    start _ _ (h .header .result) (h .header .ensures) (omega arith) (omega arith)
 
 add-header : tie.Need-add-header Inv-loop μ-loop
 add-header c = omega arith
@@ -63,13 +63,13 @@ returns-4 : tie.Need-returns-4 Inv-loop μ-loop
 returns-4 c =
     let h = c .before .before in
     let l = h .before .before .before in
-    runs-past _ _ (l .before .loop .inv) (l .loop-test .taken) (h .header2 .result) (h .header2 .ensures) (c .before .if3 .left) (c .if4 .taken)
+    runs-past _ _ (l .before .loop .inv) (l .loop-test .taken) (h .header2 .result) (h .header2 .ensures) (c .before .if3 .left) (omega arith)
 
 returns-5 : tie.Need-returns-5 Inv-loop μ-loop
 returns-5 c =
     let h = c .before .before .before in
     let l = h .before .before .before in
-    too-long _ _ (l .before .loop .inv) (l .loop-test .taken) (h .header2 .result) (h .header2 .ensures) (c .before .if4 .left) (c .if5 .taken)
+    too-long _ _ (l .before .loop .inv) (l .loop-test .taken) (h .header2 .result) (h .header2 .ensures) (omega arith) (omega arith)
 
 kept-requires : tie.Need-kept-requires Inv-loop μ-loop
 kept-requires c κs = search needs
@@ -90,10 +90,10 @@ loop-again : tie.Need-loop-again Inv-loop μ-loop
 loop-again c =
     let h = c .before .before .before .before in
     let l = h .before .before .before in
-    goes-on _ _ (l .before .loop .inv) (l .loop-test .taken) (h .header2 .result) (h .header2 .ensures) (c .before .before .before .if3 .left) (c .before .before .if4 .left) (c .before .if5 .left) _ (c .kept .ensures)
+    goes-on _ _ (l .before .loop .inv) (l .loop-test .taken) (h .header2 .result) (h .header2 .ensures) (c .before .before .before .if3 .left) (omega arith) (omega arith) _ (c .kept .ensures)
 
 returns-6 : tie.Need-returns-6 Inv-loop μ-loop
-returns-6 c = at-the-end _ _ (c .before .loop .inv) (c .loop-test .left)
+returns-6 c = at-the-end _ _ (c .before .loop .inv) (omega arith)
 
 pub scan-spec : {M : Type 1} → statement M
 scan-spec =
