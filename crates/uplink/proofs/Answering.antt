@@ -11,14 +11,8 @@ use Rattle.uplink.specs.declared.Walked.{Walked}
 use Rattle.uplink.specs.declared.Walked.the-variants.{Listed, Refused}
 use Rattle.uplink.specs.Walk.{Frames, listed, refused}
 use Rattle.uplink.specs.Answers.{counted, numbered, scanned}
-use Rattle.uplink.specs.Claims.{framesIn}
 
 module _ (n : ℕ) {k e : ℕ} {f : Frame} {r : Walked} where
-  pub list-is : (L : Frames) → r ≡ Listed k e f → r ≡ scanned n L → L ≡ listed (framesIn L) e
-  unfolding scanned
-  list-is (listed fs end) g h = cc
-  list-is (refused x) g h = cc
-
   pub count-is : (L : Frames) → r ≡ Listed k e f → r ≡ scanned n L → list.Frames k e ≡ counted L
   unfolding scanned counted
   count-is (listed fs end) g h = cc

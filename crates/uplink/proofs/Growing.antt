@@ -7,7 +7,6 @@ use native.Mathlib.Omega.{arith}
 use lib.ListN.{length, getD, take, drop, set, replicate, length-append, length-drop, length-set, length-replicate, List·getD-append, take-append-drop}
 use lib.Seq.{take-add, drop-at, length-take-le, drop-append-seam, drop-append-le, drop-append-add, drop-set-lt, getD-set-same, getD-take, take-append-le, take-append-seam}
 use borrow.Author.Tests.{eq-eqb}
-use Rattle.numbers.specs.Bits.{bit}
 use Rattle.uplink.specs.declared.Frame.{Frame}
 use Rattle.uplink.specs.Frames.{lengthIn, headed, frameBytes, withValidBit}
 use Rattle.uplink.specs.Walk.{Frames, listed, refused, before, walk, validBit, listing}
@@ -21,15 +20,15 @@ Grows : ℕ → List ℕ → Frames → Type 0
 Grows at xs (listed fs end) = (at ≤ end) × ((ys : List ℕ) → walk at 0 (take (end - at) xs ++ ys) ≡ before fs (walk end 0 ys))
 Grows at xs (refused k) = Unit {0}
 
-none : (at : ℕ) (xs : List ℕ) → Grows at xs (listed [] at)
+grows-none : (at : ℕ) (xs : List ℕ) → Grows at xs (listed [] at)
 unfolding Grows
-none at xs =
+grows-none at xs =
     let e : at - at ≡ 0 = omega arith in
     (omega arith, λ ys. rw e (sym (before-none (walk at 0 ys))))
 
 grows : (at : ℕ) (xs : List ℕ) → Grows at xs (walk at 0 xs)
-unfolding Grows before headed
-grows = every-walk Grows none (λ at xs k. tt) front
+unfolding Grows before
+grows = every-walk Grows grows-none (λ at xs k. tt) front
   where
     front : (at a b : ℕ) (xs : List ℕ) (w : Frames) → 0 < lengthIn a b → lengthIn a b ≤ length xs → lengthIn a b ≤ 422
         → Grows (at + (lengthIn a b + 2)) (drop (lengthIn a b) xs) w → Grows at (a ∷ b ∷ xs) (before (headed at a b ∷ []) w)
@@ -52,12 +51,11 @@ continued : (p : List ℕ) {fs : List Frame} {end : ℕ} → listing p ≡ liste
 unfolding Grows
 continued p {fs} {end} is ys =
     let g : Grows 0 (drop 8 p) (listed fs end) =
-    subst (Grows 0 (drop 8 p)) is (every-listing p (Grows 0 (drop 8 p)) (λ h. grows 0 (drop 8 p)) (λ h. none 0 (drop 8 p)) tt) in
+    subst (Grows 0 (drop 8 p)) is (every-listing p (Grows 0 (drop 8 p)) (λ h. grows 0 (drop 8 p)) (λ h. grows-none 0 (drop 8 p)) tt) in
     let e : end - 0 ≡ end = omega arith in
     rw e at (g .1 ys)
 
 zeros : (at k : ℕ) → walk at 0 (replicate k 0) ≡ listed [] at
-unfolding headed lengthIn
 zeros at zero = short at [] (omega arith)
 zeros at (suc zero) = short at (0 ∷ []) (omega arith)
 zeros at (suc (suc k)) = ended at 0 0 (replicate k 0) (headed at 0 0) refl refl
@@ -65,7 +63,7 @@ zeros at (suc (suc k)) = ended at 0 0 (replicate k 0) (headed at 0 0) refl refl
 -- the bytes of a frame, and others behind them
 new-frame : (end kind : ℕ) (xs zs : List ℕ) → kind ≤ 15 → 1 ≤ length xs → length xs ≤ 422
     → walk end 0 (frameBytes kind xs ++ zs) ≡ before (newFrame end kind xs ∷ []) (walk (end + (length xs + 2)) 0 zs)
-unfolding frameBytes headed lengthIn
+unfolding frameBytes
 new-frame end kind xs zs small some most =
     let b = length xs % 2 * 128 + kind in
     let n : length xs / 2 * 2 + b / 128 ≡ length xs = omega arith in
@@ -73,10 +71,6 @@ new-frame end kind xs zs small some most =
     let k : b % 16 ≡ kind = omega arith in
     more end (length xs / 2) b (xs ++ zs) (newFrame end kind xs) (rw (n, r, k)) (λ e. omega arith) (omega (arith, length-append xs zs)) most
     ∙ rw drop-append-seam
-
-now-valid : (b : ℕ) → bit 5 (withValidBit b) ≡ 1
-unfolding withValidBit bit
-now-valid b = omega arith
 
 -- a part that lies in the first of two lists
 in-first : (m n : ℕ) (xs ys : List ℕ) → m + n ≤ length xs → take n (drop m (xs ++ ys)) ≡ take n (drop m xs)
@@ -105,8 +99,7 @@ module _ (p : List ℕ) (end kind : ℕ) (xs : List ℕ) (size : length p ≡ 43
 
   q-valid : validBit (front ++ back) ≡ 1
   q-valid =
-      rw (List·getD-append front back 0 6 (omega (arith, front-size)), getD-take (end + 8) valid 6 0 (omega arith), getD-set-same p 6 (withValidBit (getD p 6 0)) 0 (omega arith))
-      (now-valid (getD p 6 0))
+      rw (List·getD-append front back 0 6 (omega (arith, front-size)), getD-take (end + 8) valid 6 0 (omega arith), getD-set-same p 6 (withValidBit (getD p 6 0)) 0 (omega arith)) (omega arith)
 
   q-data : drop 8 (front ++ back) ≡ take end (drop 8 p) ++ back
   q-data =

@@ -5,4 +5,4 @@ pub mod Rows
 pub mod Filling
 pub mod Putting
 pub mod Growing
-pub mod Claimed
+pub mod Laws

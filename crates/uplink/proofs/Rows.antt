@@ -10,6 +10,7 @@ use lib.ListN.{length, getD, drop, length-drop}
 use borrow.Author.Tests.{ltb-true}
 use Rattle.uplink.specs.declared.Frame.{Frame}
 use Rattle.uplink.specs.declared.Found.the-variants as nth
+use Rattle.uplink.specs.declared.Listing.{Listing}
 use Rattle.uplink.specs.declared.Listing.the-variants as list
 use Rattle.uplink.specs.Frames.{lengthIn, headed}
 use Rattle.uplink.specs.Walk.{Frames, listed, refused, before, walk, listing}
@@ -29,7 +30,7 @@ Within at xs (listed fs end) = InRow at fs end × (end ≤ at + length xs)
 Within at xs (refused k) = Unit {0}
 
 within : (at : ℕ) (xs : List ℕ) → Within at xs (walk at 0 xs)
-unfolding Within InRow before headed
+unfolding Within InRow before
 within = every-walk Within (λ at xs. (refl, omega arith)) (λ at xs k. tt) (λ at a b xs w z l m ih. front at a b xs w z l ih)
   where
     front : (at a b : ℕ) (xs : List ℕ) (w : Frames) → 0 < lengthIn a b → lengthIn a b ≤ length xs
@@ -101,13 +102,28 @@ apart p i j f g l x y =
     let b = found (listing p) j g y in
     rw (a .2, b .2) (row-apart 0 _ _ i j (in-row p (a .0) .1) l (b .1))
 
-counted-is : (L : Frames) {n end : ℕ} → counted L ≡ list.Frames n end → (L ≡ listed (framesIn L) end) × (length (framesIn L) ≡ n)
+counts : (L : Frames) {n end : ℕ} {r : Listing} → r ≡ list.Frames n end → r ≡ counted L → (L ≡ listed (framesIn L) end) × (length (framesIn L) ≡ n)
 unfolding counted
-counted-is (listed fs end) h = (cc, cc)
-counted-is (refused k) h = (cc, cc)
+counts (listed fs end) g h = (cc, cc)
+counts (refused k) g h = (cc, cc)
+
+pub refused-is : (L : Frames) {k : ℕ} {r : Listing} → r ≡ list.Refused k → r ≡ counted L → L ≡ refused k
+unfolding counted
+refused-is (listed fs end) g h = cc
+refused-is (refused k) g h = cc
+
+-- what a count says of the payload
+pub record Counted (p : List ℕ) (n end : ℕ) : Type 0 where
+  pub list : listing p ≡ listed (framesIn (listing p)) end
+  pub size : length p ≡ 432
+  pub inside : end ≤ 424
+  pub most : n ≤ 141
+
+pub counted-is : (p : List ℕ) {n end : ℕ} {r : Listing} → r ≡ list.Frames n end → r ≡ counted (listing p) → Counted p n end
+counted-is p {end = end} g h =
+    let c = counts (listing p) g h in
+    let s = in-row p (c .0) in
+    record { list = c .0; size = s .0; inside = s .2; most = omega (arith, row-le 0 _ end (s .1), s .2, c .1) }
 
 pub at-most-141 : AtMost141
-at-most-141 p n end h =
-    let c = counted-is (listing p) h in
-    let s = in-row p (c .0) in
-    omega (arith, row-le 0 _ end (s .1), s .2, c .1)
+at-most-141 p n end h = counted-is p h refl .most

@@ -11,7 +11,7 @@ use lib.Seq.{drop-cons, drop-drop}
 use borrow.Author.Tests.{eq-eqb, ne-eqb}
 use Rattle.uplink.specs.declared.Frame.{Frame}
 use Rattle.uplink.specs.declared.Walked.the-variants.{Listed, Refused}
-use Rattle.uplink.specs.Frames.{lengthIn, headed}
+use Rattle.uplink.specs.Frames.{headed}
 use Rattle.uplink.specs.Walk.{listed, refused, before, walk, validBit, listing}
 use Rattle.uplink.specs.Answers.{scanned, none}
 use Rattle.uplink.proofs.Walking.{before-none, before-both, before-end, short, ended, past, long, more}
@@ -29,11 +29,11 @@ module _ (p : List ℕ) (n : ℕ) where
   not-432 h = rw (ne-eqb (length p) 432 h)
 
   pub not-valid : (f : Frame) → f ≡ headed 0 0 0 → length p ≡ 432 → (validBit p ≡ 1 → ⊥) → Listed 0 0 f ≡ scanned n (listing p)
-  unfolding scanned listing headed lengthIn
+  unfolding scanned listing
   not-valid f e h v = rw (e, eq-eqb (length p) 432 h, ne-eqb (validBit p) 1 v)
 
-  -- the walk has come to byte `at`: the list is that of the frames behind it and then those of the rest
-  pub record Come (at count : ℕ) (frame : Frame) : Type 0 where
+  -- the walk has reached byte `at`: the list is that of the frames behind it and then those of the rest
+  pub record Reached (at count : ℕ) (frame : Frame) : Type 0 where
     pub size : length p ≡ 432
     pub room : at ≤ 424
     pub few : count ≤ at
@@ -42,8 +42,8 @@ module _ (p : List ℕ) (n : ℕ) where
     pub keeps : frame ≡ getD behind n none
     pub rest : listing p ≡ before behind (walk at 0 (drop (at + 8) p))
 
-  pub start : (f : Frame) → f ≡ headed 0 0 0 → length p ≡ 432 → validBit p ≡ 1 → Come 0 0 f
-  unfolding listing headed lengthIn
+  pub start : (f : Frame) → f ≡ headed 0 0 0 → length p ≡ 432 → validBit p ≡ 1 → Reached 0 0 f
+  unfolding listing
   start f e h v = record {
     size = h;
     room = omega arith;
@@ -54,7 +54,7 @@ module _ (p : List ℕ) (n : ℕ) where
     rest = rw (before-none, eq-eqb (length p) 432 h, eq-eqb (validBit p) 1 v);
   }
 
-  module _ {at count : ℕ} {frame : Frame} (c : Come at count frame) where
+  module _ {at count : ℕ} {frame : Frame} (c : Reached at count frame) where
     pub stops : walk at 0 (drop (at + 8) p) ≡ listed [] at → Listed count at frame ≡ scanned n (listing p)
     unfolding scanned
     stops e = rw (c .rest, e, before-end, c .counts, c .keeps)
@@ -87,7 +87,7 @@ module _ (p : List ℕ) (n : ℕ) where
         too-long l m = refuses 12 (rw two (long at _ _ _ f is (omega (arith, left)) m))
 
         pub goes-on : (f .length ≡ 0 → ⊥) → f .length ≤ 422 - at → f .length ≤ 422 → (g : Frame) → g ≡ cond (eqb count n) f frame
-            → Come (at + (f .length + 2)) (count + 1) g
+            → Reached (at + (f .length + 2)) (count + 1) g
         goes-on z l m g k =
             let e : at + 10 + f .length ≡ at + (f .length + 2) + 8 = omega arith in
             let w : walk at 0 (drop (at + 8) p) ≡ before (f ∷ []) (walk (at + (f .length + 2)) 0 (drop (at + (f .length + 2) + 8) p)) =

@@ -44,7 +44,6 @@ short at (a ∷ b ∷ xs) h = absurd (omega arith)
 -- at a header
 module _ (at a b : ℕ) (xs : List ℕ) (f : Frame) (is : f ≡ headed at a b) where
   size : lengthIn a b ≡ f .length
-  unfolding headed
   size = rw is
 
   pub ended : f .length ≡ 0 → walk at 0 (a ∷ b ∷ xs) ≡ listed [] at
@@ -64,7 +63,7 @@ module _ (at a b : ℕ) (xs : List ℕ) (f : Frame) (is : f ≡ headed at a b) w
   unfolding walk
   more z l m =
       let e : suc (suc at) + f .length ≡ at + (f .length + 2) = omega arith in
-      rw (size, ne-eqb (f .length) 0 z, le-ltb (length xs) (f .length) l, le-ltb 422 (f .length) m, ← is, passed (f .length) (suc (suc at)) xs l, e)
+      rw (← is, size, ne-eqb (f .length) 0 z, le-ltb (length xs) (f .length) l, le-ltb 422 (f .length) m, passed (f .length) (suc (suc at)) xs l, e)
 
 -- what holds of a list that ends, of a refusal, and of a list with one frame more at its front, holds of every walk
 module _ (P : ℕ → List ℕ → Frames → Type 0)

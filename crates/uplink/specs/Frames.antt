@@ -3,15 +3,14 @@
 use Prim.Native.Nat.{ℕ, _+_, _-_, _*_, _/_, _%_}
 use mathlib.Core.List.{List, _∷_}
 use lib.ListN.{length}
-use Rattle.numbers.specs.Bits.{bit}
 use Rattle.uplink.specs.declared.Frame.{Frame}
 
 -- the length, in nine bits: all of the first byte, then bit 7 of the second
-unfoldable pub lengthIn : ℕ → ℕ → ℕ
+abbrev pub lengthIn : ℕ → ℕ → ℕ
 lengthIn a b = a * 2 + b / 128
 
 -- the frame at byte `at` of the application data whose header is the bytes a and b: length, three reserved bits, type in four
-unfoldable pub headed : ℕ → ℕ → ℕ → Frame
+abbrev pub headed : ℕ → ℕ → ℕ → Frame
 headed at a b = record { at = at; length = lengthIn a b; reserved = b / 16 % 8; kind = b % 16 }
 
 -- the bytes of a frame with these data, its reserved bits 0
@@ -19,5 +18,5 @@ unfoldable pub frameBytes : ℕ → List ℕ → List ℕ
 frameBytes kind xs = length xs / 2 ∷ (length xs % 2 * 128 + kind) ∷ xs
 
 -- a byte with bit 5 set and its other bits as they were
-unfoldable pub withValidBit : ℕ → ℕ
-withValidBit b = b + (1 - bit 5 b) * 32
+abbrev pub withValidBit : ℕ → ℕ
+withValidBit b = b + (1 - b / 32 % 2) * 32

@@ -1,11 +1,10 @@
 -- The list of the information frames of an uplink payload (01 'Uplink payloads').
 -- Assumes nothing.
-use Prim.Native.Nat.{ℕ, zero, suc}
+use Prim.Native.Nat.{ℕ, zero, suc, _/_, _%_}
 use mathlib.Core.Bool.{cond}
 use mathlib.Core.List.{List, [], _∷_, _++_}
 use lib.Dec.{eqb, ltb}
 use lib.ListN.{length, getD, drop}
-use Rattle.numbers.specs.Bits.{bit}
 use Rattle.uplink.specs.declared.Frame.{Frame}
 use Rattle.uplink.specs.Frames.{lengthIn, headed}
 
@@ -33,7 +32,7 @@ walk at zero (a ∷ b ∷ xs) =
 
 -- bit 5 of the seventh header byte
 abbrev pub validBit : List ℕ → ℕ
-validBit p = bit 5 (getD p 6 0)
+validBit p = getD p 6 0 / 32 % 2
 
 -- the list of a payload: 7 unless it has 432 bytes; where its data are not valid, an empty list that ends at byte 0
 unfoldable pub listing : List ℕ → Frames

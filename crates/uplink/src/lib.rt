@@ -87,8 +87,8 @@ pub fn data<'a>(payload: &'a [u8], n: usize) -> &'a [u8]
 pub fn add(payload: &mut [u8], kind: u8, bytes: &[u8]) -> Added
     ensures { λ r. ⌜ Adds (now (payload .entry)) kind (now (bytes .entry)) r (now (payload .exit)) ⌝ }
 {
-    match scan(payload, 0) {
-        Walked::Listed(_, end, _) => {
+    match list(payload) {
+        Listing::Frames { count: _, end } => {
             let n = bytes.len();
             if !is_good(kind, n) {
                 return Added::Refused(8);
@@ -99,7 +99,7 @@ pub fn add(payload: &mut [u8], kind: u8, bytes: &[u8]) -> Added
             put(payload, end, kind, bytes);
             Added::Done
         }
-        Walked::Refused(k) => Added::Refused(k),
+        Listing::Refused(k) => Added::Refused(k),
     }
 }
 

@@ -3,13 +3,12 @@
 use Prim.Native.Nat.{_-_}
 use native.Mathlib.Omega.{arith}
 use borrow.Author.Needs.{needs}
-use Rattle.numbers.specs.Bits.{bit}
-use Rattle.uplink.proofs.Scanning.{Come, not-432, not-valid, start, at-end, runs-past, too-long, goes-on, at-the-end}
+use Rattle.uplink.proofs.Scanning.{Reached, not-432, not-valid, start, at-end, runs-past, too-long, goes-on, at-the-end}
 use Rattle.uplink.proofs.scan.Statement.{statement}
 use Rattle.uplink.proofs.scan.Tie as tie
 
 abbrev Inv-loop : tie.InvT-loop
-Inv-loop payload n frame₀ at₀ count₀ frame at count = Come payload n at count frame
+Inv-loop payload n frame₀ at₀ count₀ frame at count = Reached payload n at count frame
 
 abbrev μ-loop : tie.MeasureT-loop
 μ-loop payload n frame₀ at₀ count₀ frame at count = 424 - at
@@ -24,13 +23,11 @@ shared-slice-read-if2 : tie.Need-shared-slice-read-if2 Inv-loop μ-loop
 shared-slice-read-if2 c = omega arith
 
 returns-2 : tie.Need-returns-2 Inv-loop μ-loop
-unfolding bit
 returns-2 c =
     let h = c .before .before .before in
     not-valid _ _ (h .header .result) (h .header .ensures) (omega arith) (λ e. omega arith)
 
 loop-holds : tie.Need-loop-holds Inv-loop μ-loop
-unfolding bit
 loop-holds c =
     let h = c .before .before .before in
     start _ _ (h .header .result) (h .header .ensures) (omega arith) (omega arith)

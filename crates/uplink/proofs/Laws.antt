@@ -1,4 +1,4 @@
--- The claims on listing and adding.
+-- What is proved of adding, and the values of 01 and 001.
 -- Assumes nothing.
 use mathlib.Core.Path.{_≡_, refl, _∙_}
 use mathlib.Core.Bool.{Bool, true, false, cond}
@@ -8,10 +8,8 @@ use native.Mathlib.Omega.{arith}
 use lib.Dec.{ltb}
 use lib.ListN.{length}
 use borrow.Author.Tests.{ltb-false}
-use Rattle.numbers.specs.Bits.{bit}
 use Rattle.uplink.specs.declared.Frame.{Frame}
 use Rattle.uplink.specs.declared.Added.the-variants.{Done, Refused}
-use Rattle.uplink.specs.Frames.{lengthIn, headed}
 use Rattle.uplink.specs.Walk.{listed, before, walk, listing}
 use Rattle.uplink.specs.Answers.{counted}
 use Rattle.uplink.specs.Adding.{isGood, adding, withFrame}
@@ -70,9 +68,9 @@ unfolding contents
 all-added-listed p q cs end is a = added p q cs a [] end is ∙ rw is
 
 pub values : Values
-unfolding counted listing walk before headed lengthIn bit
+unfolding counted listing walk before
 values = (refl, refl, refl, refl)
 
 pub samples : Samples
-unfolding counted listing walk before headed lengthIn bit bytesOf rows graphical1 graphical2 textual
+unfolding counted listing walk before bytesOf rows graphical1 graphical2 textual
 samples = (refl, refl, refl, refl, refl, refl)
