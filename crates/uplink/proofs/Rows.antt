@@ -7,6 +7,7 @@ use Prim.Native.Nat.{ℕ, zero, suc, _+_, _*_, _<_, _≤_}
 use native.Mathlib.Omega.{arith}
 use lib.Dec.{ltb}
 use lib.ListN.{length, getD, drop, length-drop}
+use lib.Seq.{length-take-le}
 use borrow.Author.Tests.{ltb-true}
 use Rattle.uplink.specs.declared.Frame.{Frame}
 use Rattle.uplink.specs.declared.Found.the-variants as nth
@@ -14,7 +15,7 @@ use Rattle.uplink.specs.declared.Listing.{Listing}
 use Rattle.uplink.specs.declared.Listing.the-variants as list
 use Rattle.uplink.specs.Frames.{lengthIn, headed}
 use Rattle.uplink.specs.Walk.{Frames, listed, refused, before, walk, listing}
-use Rattle.uplink.specs.Answers.{counted, numbered, none}
+use Rattle.uplink.specs.Answers.{counted, numbered, dataIn, none}
 use Rattle.uplink.specs.Adding.{endOf}
 use Rattle.uplink.specs.Claims.{framesIn, AtMost141, Inside, Apart}
 use Rattle.uplink.proofs.Walking.{every-walk, every-listing}
@@ -90,11 +91,13 @@ found (listed fs end) n f = go (ltb n (length fs)) refl
 found (refused k) n f = λ h. absurd (let z : _≡_ {A = ℕ} 0 1 = cc in omega arith)
 
 pub inside : Inside
+unfolding dataIn
 inside p n f h =
     let a = found (listing p) n f h in
     let s = in-row p (a .0) in
     let r = row-at 0 _ _ n (s .1) (a .1) in
-    (s .0, rw (a .2) (omega (arith, r .1, s .2)))
+    let l : f .at + (f .length + 2) ≤ 424 = rw (a .2) (omega (arith, r .1, s .2)) in
+    (s .0, l, length-take-le (f .length) (drop (f .at + 10) p) (omega (arith, length-drop (f .at + 10) p, s .0)))
 
 pub apart : Apart
 apart p i j f g l x y =

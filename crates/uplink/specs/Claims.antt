@@ -21,10 +21,11 @@ Fixed = (p q : List ℕ) → length p ≡ length q → validBit p ≡ validBit q
 abbrev pub AtMost141 : Type 0
 AtMost141 = (p : List ℕ) (n end : ℕ) → counted (listing p) ≡ list.Frames n end → n ≤ 141
 
--- a frame that is handed out lies inside the application data
+-- a frame that is handed out lies inside the application data, and its data are as long as it says
 abbrev pub Inside : Type 0
 Inside =
-    (p : List ℕ) (n : ℕ) (f : Frame) → numbered (listing p) n ≡ nth.Frame f → (length p ≡ 432) × (f .at + (f .length + 2) ≤ 424)
+    (p : List ℕ) (n : ℕ) (f : Frame) → numbered (listing p) n ≡ nth.Frame f
+    → (length p ≡ 432) × (f .at + (f .length + 2) ≤ 424) × (length (dataIn p f) ≡ f .length)
 
 -- and two of them do not overlap: each is behind those before it
 abbrev pub Apart : Type 0

@@ -38,12 +38,13 @@ pub enum Added {
     Refused(u8),
 }
 
-// What one walk finds: how many frames, the list's end, and the frame that was asked for.
+// What a walk finds: how many frames, the list's end, and the frame that was asked for.
 enum Walked {
     Listed(usize, usize, Frame),
     Refused(u8),
 }
 
+// How many frames a payload has.
 pub fn list(payload: &[u8]) -> Listing
     ensures { λ r. ⌜ r ≡ counted (listing (now (payload .entry))) ⌝ }
 {
@@ -103,9 +104,11 @@ pub fn add(payload: &mut [u8], kind: u8, bytes: &[u8]) -> Added
     }
 }
 
+// The walk over the application data, which remembers frame n.
 fn scan(payload: &[u8], n: usize) -> Walked
     ensures { λ r. ⌜ r ≡ scanned n (listing (now (payload .entry))) ⌝ }
 {
+    // none yet
     let mut frame = header(0, 0, 0);
     if payload.len() != 432 {
         return Walked::Refused(7);
@@ -153,6 +156,7 @@ fn kept(this: bool, f: Frame, g: Frame) -> Frame
     if this { f } else { g }
 }
 
+// A type of four bits, and 1 to 422 bytes of data.
 fn is_good(kind: u8, n: usize) -> bool
     ensures { λ r. ⌜ r ≡ isGood kind n ⌝ }
 {
@@ -171,6 +175,7 @@ fn put(payload: &mut [u8], end: usize, kind: u8, bytes: &[u8])
     fill_from(payload, end + 10, bytes);
 }
 
+// Bit 5 set, the other bits as they were.
 fn with_valid_bit(b: u8) -> u8
     ensures { λ r. ⌜ r ≡ withValidBit b ⌝ }
 {
