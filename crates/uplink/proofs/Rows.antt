@@ -120,13 +120,15 @@ pub record Counted (p : List ℕ) (n end : ℕ) : Type 0 where
   pub list : listing p ≡ listed (framesIn (listing p)) end
   pub size : length p ≡ 432
   pub inside : end ≤ 424
-  pub most : n ≤ 141
+  pub few : n * 3 ≤ end
 
 pub counted-is : (p : List ℕ) {n end : ℕ} {r : Listing} → r ≡ list.Frames n end → r ≡ counted (listing p) → Counted p n end
 counted-is p {end = end} g h =
     let c = counts (listing p) g h in
     let s = in-row p (c .0) in
-    record { list = c .0; size = s .0; inside = s .2; most = omega (arith, row-le 0 _ end (s .1), s .2, c .1) }
+    record { list = c .0; size = s .0; inside = s .2; few = omega (arith, row-le 0 _ end (s .1), c .1) }
 
 pub at-most-141 : AtMost141
-at-most-141 p n end h = counted-is p h refl .most
+at-most-141 p n end h =
+    let c = counted-is p h refl in
+    omega arith
