@@ -1,31 +1,16 @@
-// The typed messages as structs of numbers, for callers that know no enums, such as C's: reading and writing one kind.
+// The typed messages as structs of numbers, for callers that know no enums, such as C's, there and back.
 ghost use mathlib.Core.Path.{_≡_};
-ghost use lib.ListN.{length};
-ghost use Rattle.status.specs.Heartbeat.{goodHeartbeat, heartbeatBytes};
-ghost use Rattle.status.specs.Initialization.{goodInitialization, initializationBytes};
-ghost use Rattle.altitudes.specs.Height.{goodTerrain, terrainBytes};
-ghost use Rattle.altitudes.specs.Geometric.{goodGeometric, geometricBytes};
-ghost use Rattle.passing.specs.Uplink.{uplinkBytes, writingUplink};
-ghost use Rattle.passing.specs.PassThrough.{goodBasicPassThrough, basicPassThroughBytes, goodLongPassThrough, longPassThroughBytes};
-ghost use Rattle.report.specs.Bytes.{reportBytes};
 ghost use Rattle.flat.specs.Flat.{receptionMark, receptionSteps, receptionFrom, flatUplink, uplinkFrom, flatBasic, basicFrom, flatLong, longFrom};
 ghost use Rattle.flat.specs.Flat.{heightMark, heightFeet, heightFrom, flatHeight, terrainFrom, meritMark, meritMetres, meritFrom, flatGeometric, geometricFrom};
 ghost use Rattle.flat.specs.Flat.{positionMark, latitudeOf, longitudeOf, positionFrom, altitudeMark, altitudeSteps, altitudeFrom};
 ghost use Rattle.flat.specs.Flat.{trackNumber, trackFrom, speedMark, speedKnots, speedFrom, climbMark, climbSteps, climbFrom, flatReport, reportFrom};
-ghost use Rattle.flat.specs.Answers.{ofKind, numbered, heartbeatAnswer, initializationAnswer, uplinkAnswer, heightAnswer, reportAnswer, geometricAnswer};
-ghost use Rattle.flat.specs.Answers.{basicAnswer, longAnswer, writeAnswer, Told, Wrote, goodFlatReport};
-use fields::Written;
 use kinds::Altitude;
 use kinds::BasicPassThrough;
 use kinds::Bytes8;
 use kinds::Climb;
 use kinds::GeometricAltitude;
-use kinds::Heartbeat;
-use kinds::HeartbeatRead;
 use kinds::Height;
 use kinds::HeightAboveTerrain;
-use kinds::Initialization;
-use kinds::InitializationRead;
 use kinds::LongPassThrough;
 use kinds::Merit;
 use kinds::Position;
@@ -142,220 +127,6 @@ pub struct FlatBasicRead {
 pub struct FlatLongRead {
     pub number: u8,
     pub long: FlatLong,
-}
-
-// 01's number, and how many bytes were written, 0 with a refusal.
-#[repr(C)]
-pub struct WriteAnswer {
-    pub number: u8,
-    pub length: usize,
-}
-
-// The message where its first byte is the id, else an empty part.
-fn of_kind<'a>(id: u8, message: &'a [u8]) -> &'a [u8]
-    ensures { λ r. ⌜ now r ≡ ofKind id (now (message .entry)) ⌝ }
-{
-    if message.len() == 0 {
-        return &message[0..0];
-    }
-    if message[0] != id {
-        return &message[0..0];
-    }
-    message
-}
-
-fn number_of(message: &[u8], number: u8) -> u8
-    ensures { λ r. ⌜ r ≡ numbered (now (message .entry)) number ⌝ }
-{
-    if message.len() == 0 { 6 } else { number }
-}
-
-pub fn read_heartbeat(message: &[u8]) -> HeartbeatRead
-    ensures { λ r. ⌜ r ≡ heartbeatAnswer (ofKind 0 (now (message .entry))) ⌝ }
-{
-    let message = of_kind(Heartbeat::ID, message);
-    let read = status::read_heartbeat(message);
-    let heartbeat = read.heartbeat;
-    HeartbeatRead {
-        number: number_of(message, read.number),
-        heartbeat,
-    }
-}
-
-pub fn read_initialization(message: &[u8]) -> InitializationRead
-    ensures { λ r. ⌜ r ≡ initializationAnswer (ofKind 2 (now (message .entry))) ⌝ }
-{
-    let message = of_kind(Initialization::ID, message);
-    let read = status::read_initialization(message);
-    let initialization = read.initialization;
-    InitializationRead {
-        number: number_of(message, read.number),
-        initialization,
-    }
-}
-
-pub fn read_uplink(message: &[u8]) -> FlatUplinkRead
-    ensures { λ r. ⌜ r ≡ uplinkAnswer (ofKind 7 (now (message .entry))) ⌝ }
-{
-    let message = of_kind(Uplink::ID, message);
-    let read = passing::read_uplink(message);
-    let value = read.uplink;
-    let uplink = flat_uplink(value);
-    FlatUplinkRead {
-        number: number_of(message, read.number),
-        uplink,
-    }
-}
-
-pub fn read_height(message: &[u8]) -> FlatHeightRead
-    ensures { λ r. ⌜ r ≡ heightAnswer (ofKind 9 (now (message .entry))) ⌝ }
-{
-    let message = of_kind(HeightAboveTerrain::ID, message);
-    let read = altitudes::read_height(message);
-    let value = read.height;
-    let height = flat_height(value);
-    FlatHeightRead {
-        number: number_of(message, read.number),
-        height,
-    }
-}
-
-pub fn read_geometric(message: &[u8]) -> FlatGeometricRead
-    ensures { λ r. ⌜ r ≡ geometricAnswer (ofKind 11 (now (message .entry))) ⌝ }
-{
-    let message = of_kind(GeometricAltitude::ID, message);
-    let read = altitudes::read_geometric(message);
-    let value = read.geometric;
-    let geometric = flat_geometric(value);
-    FlatGeometricRead {
-        number: number_of(message, read.number),
-        geometric,
-    }
-}
-
-pub fn read_basic(message: &[u8]) -> FlatBasicRead
-    ensures { λ r. ⌜ r ≡ basicAnswer (ofKind 30 (now (message .entry))) ⌝ }
-{
-    let message = of_kind(BasicPassThrough::ID, message);
-    let read = passing::read_basic_pass_through(message);
-    let value = read.basic;
-    let basic = flat_basic(value);
-    FlatBasicRead {
-        number: number_of(message, read.number),
-        basic,
-    }
-}
-
-pub fn read_long(message: &[u8]) -> FlatLongRead
-    ensures { λ r. ⌜ r ≡ longAnswer (ofKind 31 (now (message .entry))) ⌝ }
-{
-    let message = of_kind(LongPassThrough::ID, message);
-    let read = passing::read_long_pass_through(message);
-    let value = read.long;
-    let long = flat_long(value);
-    FlatLongRead {
-        number: number_of(message, read.number),
-        long,
-    }
-}
-
-// Of the id given: an ownship's or a traffic report's.
-pub fn read_report(id: u8, message: &[u8]) -> FlatReportRead
-    ensures { λ r. ⌜ r ≡ reportAnswer (ofKind id (now (message .entry))) ⌝ }
-{
-    let message = of_kind(id, message);
-    let read = report::read_report(message);
-    let value = read.report;
-    let report = flat_report(value);
-    FlatReportRead {
-        number: number_of(message, read.number),
-        report,
-    }
-}
-
-pub fn write_heartbeat(heartbeat: Heartbeat, out: &mut [u8]) -> WriteAnswer
-    ensures { λ r. ⌜ Wrote (goodHeartbeat heartbeat) (heartbeatBytes heartbeat) (now (out .entry)) r (now (out .exit)) ⌝ }
-{
-    let written = status::write_heartbeat(heartbeat, out);
-    write_answer(written)
-}
-
-pub fn write_initialization(initialization: Initialization, out: &mut [u8]) -> WriteAnswer
-    ensures { λ r. ⌜ Wrote (goodInitialization initialization) (initializationBytes initialization) (now (out .entry)) r (now (out .exit)) ⌝ }
-{
-    let written = status::write_initialization(initialization, out);
-    write_answer(written)
-}
-
-// The payload is given beside the struct.
-pub fn write_uplink(uplink: FlatUplink, payload: &[u8], out: &mut [u8]) -> WriteAnswer
-    ensures { λ r. ⌜ Told (writingUplink (uplinkFrom uplink) (now (payload .entry)) (length (now (out .entry)))) (uplinkBytes (uplinkFrom uplink) (now (payload .entry))) (now (out .entry)) r (now (out .exit)) ⌝ }
-{
-    let value = uplink_from(uplink);
-    let written = passing::write_uplink(value, payload, out);
-    write_answer(written)
-}
-
-pub fn write_height(height: FlatHeight, out: &mut [u8]) -> WriteAnswer
-    ensures { λ r. ⌜ Wrote (goodTerrain (terrainFrom height)) (terrainBytes (terrainFrom height)) (now (out .entry)) r (now (out .exit)) ⌝ }
-{
-    let value = terrain_from(height);
-    let written = altitudes::write_height(value, out);
-    write_answer(written)
-}
-
-pub fn write_geometric(geometric: FlatGeometric, out: &mut [u8]) -> WriteAnswer
-    ensures { λ r. ⌜ Wrote (goodGeometric (geometricFrom geometric)) (geometricBytes (geometricFrom geometric)) (now (out .entry)) r (now (out .exit)) ⌝ }
-{
-    let value = geometric_from(geometric);
-    let written = altitudes::write_geometric(value, out);
-    write_answer(written)
-}
-
-pub fn write_basic(basic: FlatBasic, out: &mut [u8]) -> WriteAnswer
-    ensures { λ r. ⌜ Wrote (goodBasicPassThrough (basicFrom basic)) (basicPassThroughBytes (basicFrom basic)) (now (out .entry)) r (now (out .exit)) ⌝ }
-{
-    let value = basic_from(basic);
-    let written = passing::write_basic_pass_through(value, out);
-    write_answer(written)
-}
-
-pub fn write_long(long: FlatLong, out: &mut [u8]) -> WriteAnswer
-    ensures { λ r. ⌜ Wrote (goodLongPassThrough (longFrom long)) (longPassThroughBytes (longFrom long)) (now (out .entry)) r (now (out .exit)) ⌝ }
-{
-    let value = long_from(long);
-    let written = passing::write_long_pass_through(value, out);
-    write_answer(written)
-}
-
-// With the id given.
-pub fn write_report(id: u8, report: FlatReport, out: &mut [u8]) -> WriteAnswer
-    ensures { λ r. ⌜ Wrote (goodFlatReport report) (reportBytes id (reportFrom report)) (now (out .entry)) r (now (out .exit)) ⌝ }
-{
-    if report.track_kind <= 3 {
-        let value = report_from(report);
-        let written = report::write_report(id, value, out);
-        return write_answer(written);
-    }
-    WriteAnswer {
-        number: 8,
-        length: 0,
-    }
-}
-
-fn write_answer(written: Written) -> WriteAnswer
-    ensures { λ r. ⌜ r ≡ writeAnswer written ⌝ }
-{
-    match written {
-        Written::Bytes(n) => WriteAnswer {
-            number: 0,
-            length: n,
-        },
-        Written::Refused(k) => WriteAnswer {
-            number: k,
-            length: 0,
-        },
-    }
 }
 
 fn reception_mark(reception: Reception) -> u8
@@ -638,7 +409,7 @@ fn merit_from(mark: u8, metres: u16) -> Merit
     Merit::Metres(0x7FFF)
 }
 
-fn flat_uplink(uplink: Uplink) -> FlatUplink
+pub fn flat_uplink(uplink: Uplink) -> FlatUplink
     ensures { λ r. ⌜ r ≡ flatUplink uplink ⌝ }
 {
     let reception = uplink.reception;
@@ -648,14 +419,14 @@ fn flat_uplink(uplink: Uplink) -> FlatUplink
     }
 }
 
-fn uplink_from(flat: FlatUplink) -> Uplink
+pub fn uplink_from(flat: FlatUplink) -> Uplink
     ensures { λ r. ⌜ r ≡ uplinkFrom flat ⌝ }
 {
     let reception = reception_from(flat.reception_mark, flat.reception);
     Uplink { reception }
 }
 
-fn flat_height(value: HeightAboveTerrain) -> FlatHeight
+pub fn flat_height(value: HeightAboveTerrain) -> FlatHeight
     ensures { λ r. ⌜ r ≡ flatHeight value ⌝ }
 {
     let height = value.height;
@@ -665,14 +436,14 @@ fn flat_height(value: HeightAboveTerrain) -> FlatHeight
     }
 }
 
-fn terrain_from(flat: FlatHeight) -> HeightAboveTerrain
+pub fn terrain_from(flat: FlatHeight) -> HeightAboveTerrain
     ensures { λ r. ⌜ r ≡ terrainFrom flat ⌝ }
 {
     let height = height_from(flat.height_mark, flat.height);
     HeightAboveTerrain { height }
 }
 
-fn flat_geometric(value: GeometricAltitude) -> FlatGeometric
+pub fn flat_geometric(value: GeometricAltitude) -> FlatGeometric
     ensures { λ r. ⌜ r ≡ flatGeometric value ⌝ }
 {
     let altitude = value.altitude;
@@ -685,7 +456,7 @@ fn flat_geometric(value: GeometricAltitude) -> FlatGeometric
     }
 }
 
-fn geometric_from(flat: FlatGeometric) -> GeometricAltitude
+pub fn geometric_from(flat: FlatGeometric) -> GeometricAltitude
     ensures { λ r. ⌜ r ≡ geometricFrom flat ⌝ }
 {
     let merit = merit_from(flat.merit_mark, flat.merit);
@@ -698,7 +469,7 @@ fn geometric_from(flat: FlatGeometric) -> GeometricAltitude
     }
 }
 
-fn flat_basic(basic: BasicPassThrough) -> FlatBasic
+pub fn flat_basic(basic: BasicPassThrough) -> FlatBasic
     ensures { λ r. ⌜ r ≡ flatBasic basic ⌝ }
 {
     let reception = basic.reception;
@@ -714,7 +485,7 @@ fn flat_basic(basic: BasicPassThrough) -> FlatBasic
     }
 }
 
-fn basic_from(flat: FlatBasic) -> BasicPassThrough
+pub fn basic_from(flat: FlatBasic) -> BasicPassThrough
     ensures { λ r. ⌜ r ≡ basicFrom flat ⌝ }
 {
     let reception = reception_from(flat.reception_mark, flat.reception);
@@ -729,7 +500,7 @@ fn basic_from(flat: FlatBasic) -> BasicPassThrough
     }
 }
 
-fn flat_long(long: LongPassThrough) -> FlatLong
+pub fn flat_long(long: LongPassThrough) -> FlatLong
     ensures { λ r. ⌜ r ≡ flatLong long ⌝ }
 {
     let reception = long.reception;
@@ -749,7 +520,7 @@ fn flat_long(long: LongPassThrough) -> FlatLong
     }
 }
 
-fn long_from(flat: FlatLong) -> LongPassThrough
+pub fn long_from(flat: FlatLong) -> LongPassThrough
     ensures { λ r. ⌜ r ≡ longFrom flat ⌝ }
 {
     let reception = reception_from(flat.reception_mark, flat.reception);
@@ -768,7 +539,7 @@ fn long_from(flat: FlatLong) -> LongPassThrough
     }
 }
 
-fn flat_report(report: Report) -> FlatReport
+pub fn flat_report(report: Report) -> FlatReport
     ensures { λ r. ⌜ r ≡ flatReport report ⌝ }
 {
     let position = report.position;
@@ -803,7 +574,7 @@ fn flat_report(report: Report) -> FlatReport
     }
 }
 
-fn report_from(flat: FlatReport) -> Report
+pub fn report_from(flat: FlatReport) -> Report
     ensures { λ r. ⌜ r ≡ reportFrom flat ⌝ }
 {
     let position = position_from(flat.position_mark, flat.latitude, flat.longitude);

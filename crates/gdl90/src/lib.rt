@@ -14,12 +14,13 @@ ghost use Rattle.passing.specs.Uplink.{uplinkBytes, writingUplink};
 ghost use Rattle.passing.specs.PassThrough.{goodBasicPassThrough, basicPassThroughBytes, goodLongPassThrough, longPassThroughBytes};
 ghost use Rattle.report.specs.Bytes.{reportBytes};
 ghost use Rattle.flat.specs.Flat.{uplinkFrom, terrainFrom, reportFrom, geometricFrom, basicFrom, longFrom};
-ghost use Rattle.flat.specs.Answers.{ofKind, heartbeatAnswer, initializationAnswer, uplinkAnswer, heightAnswer, reportAnswer, geometricAnswer, basicAnswer, longAnswer};
-ghost use Rattle.flat.specs.Answers.{Told, Wrote, goodFlatReport};
+ghost use Rattle.face.specs.Answers.{ofKind, ofReport, heartbeatAnswer, initializationAnswer, uplinkAnswer, heightAnswer, reportAnswer, geometricAnswer, basicAnswer, longAnswer};
+ghost use Rattle.face.specs.Answers.{Told, Wrote, goodFlatReport};
 ghost use Rattle.gdl90.specs.Face.{frameAnswer, phaseNumber, phaseOf, controlOf, answerNumber, messageLength, feedAnswer, ranAnswer};
 use collecting::Answer;
 use collecting::Control;
 use collecting::Phase;
+use face::WriteAnswer;
 use flat::FlatBasic;
 use flat::FlatBasicRead;
 use flat::FlatGeometric;
@@ -32,7 +33,6 @@ use flat::FlatReport;
 use flat::FlatReportRead;
 use flat::FlatUplink;
 use flat::FlatUplinkRead;
-use flat::WriteAnswer;
 use framing::Framed;
 use kinds::Heartbeat;
 use kinds::HeartbeatRead;
@@ -206,63 +206,57 @@ fn message_length(answer: Answer) -> usize
 pub extern "C" fn gdl90_read_heartbeat(message: &[u8]) -> HeartbeatRead
     ensures { λ r. ⌜ r ≡ heartbeatAnswer (ofKind 0 (now (message .entry))) ⌝ }
 {
-    flat::read_heartbeat(message)
+    face::read_heartbeat(message)
 }
 
 #[no_mangle]
 pub extern "C" fn gdl90_read_initialization(message: &[u8]) -> InitializationRead
     ensures { λ r. ⌜ r ≡ initializationAnswer (ofKind 2 (now (message .entry))) ⌝ }
 {
-    flat::read_initialization(message)
+    face::read_initialization(message)
 }
 
 #[no_mangle]
 pub extern "C" fn gdl90_read_uplink(message: &[u8]) -> FlatUplinkRead
     ensures { λ r. ⌜ r ≡ uplinkAnswer (ofKind 7 (now (message .entry))) ⌝ }
 {
-    flat::read_uplink(message)
+    face::read_uplink(message)
 }
 
 #[no_mangle]
 pub extern "C" fn gdl90_read_height(message: &[u8]) -> FlatHeightRead
     ensures { λ r. ⌜ r ≡ heightAnswer (ofKind 9 (now (message .entry))) ⌝ }
 {
-    flat::read_height(message)
+    face::read_height(message)
 }
 
+// An ownship's or a traffic report, by its id.
 #[no_mangle]
-pub extern "C" fn gdl90_read_ownship(message: &[u8]) -> FlatReportRead
-    ensures { λ r. ⌜ r ≡ reportAnswer (ofKind 10 (now (message .entry))) ⌝ }
+pub extern "C" fn gdl90_read_report(message: &[u8]) -> FlatReportRead
+    ensures { λ r. ⌜ r ≡ reportAnswer (ofReport (now (message .entry))) ⌝ }
 {
-    flat::read_report(Ownship::ID, message)
+    face::read_report(message)
 }
 
 #[no_mangle]
 pub extern "C" fn gdl90_read_geometric(message: &[u8]) -> FlatGeometricRead
     ensures { λ r. ⌜ r ≡ geometricAnswer (ofKind 11 (now (message .entry))) ⌝ }
 {
-    flat::read_geometric(message)
-}
-
-#[no_mangle]
-pub extern "C" fn gdl90_read_traffic(message: &[u8]) -> FlatReportRead
-    ensures { λ r. ⌜ r ≡ reportAnswer (ofKind 20 (now (message .entry))) ⌝ }
-{
-    flat::read_report(Traffic::ID, message)
+    face::read_geometric(message)
 }
 
 #[no_mangle]
 pub extern "C" fn gdl90_read_basic(message: &[u8]) -> FlatBasicRead
     ensures { λ r. ⌜ r ≡ basicAnswer (ofKind 30 (now (message .entry))) ⌝ }
 {
-    flat::read_basic(message)
+    face::read_basic(message)
 }
 
 #[no_mangle]
 pub extern "C" fn gdl90_read_long(message: &[u8]) -> FlatLongRead
     ensures { λ r. ⌜ r ≡ longAnswer (ofKind 31 (now (message .entry))) ⌝ }
 {
-    flat::read_long(message)
+    face::read_long(message)
 }
 
 // A struct's bytes to the start of the output: 01's number and how many; an uplink's payload is given beside it.
@@ -270,7 +264,7 @@ pub extern "C" fn gdl90_read_long(message: &[u8]) -> FlatLongRead
 pub extern "C" fn gdl90_write_heartbeat(heartbeat: Heartbeat, out: &mut [u8]) -> WriteAnswer
     ensures { λ r. ⌜ Wrote (goodHeartbeat heartbeat) (heartbeatBytes heartbeat) (now (out .entry)) r (now (out .exit)) ⌝ }
 {
-    flat::write_heartbeat(heartbeat, out)
+    face::write_heartbeat(heartbeat, out)
 }
 
 #[no_mangle]
@@ -280,7 +274,7 @@ pub extern "C" fn gdl90_write_initialization(
 ) -> WriteAnswer
     ensures { λ r. ⌜ Wrote (goodInitialization initialization) (initializationBytes initialization) (now (out .entry)) r (now (out .exit)) ⌝ }
 {
-    flat::write_initialization(initialization, out)
+    face::write_initialization(initialization, out)
 }
 
 #[no_mangle]
@@ -291,47 +285,47 @@ pub extern "C" fn gdl90_write_uplink(
 ) -> WriteAnswer
     ensures { λ r. ⌜ Told (writingUplink (uplinkFrom uplink) (now (payload .entry)) (length (now (out .entry)))) (uplinkBytes (uplinkFrom uplink) (now (payload .entry))) (now (out .entry)) r (now (out .exit)) ⌝ }
 {
-    flat::write_uplink(uplink, payload, out)
+    face::write_uplink(uplink, payload, out)
 }
 
 #[no_mangle]
 pub extern "C" fn gdl90_write_height(height: FlatHeight, out: &mut [u8]) -> WriteAnswer
     ensures { λ r. ⌜ Wrote (goodTerrain (terrainFrom height)) (terrainBytes (terrainFrom height)) (now (out .entry)) r (now (out .exit)) ⌝ }
 {
-    flat::write_height(height, out)
+    face::write_height(height, out)
 }
 
 #[no_mangle]
 pub extern "C" fn gdl90_write_ownship(report: FlatReport, out: &mut [u8]) -> WriteAnswer
     ensures { λ r. ⌜ Wrote (goodFlatReport report) (reportBytes 10 (reportFrom report)) (now (out .entry)) r (now (out .exit)) ⌝ }
 {
-    flat::write_report(Ownship::ID, report, out)
+    face::write_report(Ownship::ID, report, out)
 }
 
 #[no_mangle]
 pub extern "C" fn gdl90_write_geometric(geometric: FlatGeometric, out: &mut [u8]) -> WriteAnswer
     ensures { λ r. ⌜ Wrote (goodGeometric (geometricFrom geometric)) (geometricBytes (geometricFrom geometric)) (now (out .entry)) r (now (out .exit)) ⌝ }
 {
-    flat::write_geometric(geometric, out)
+    face::write_geometric(geometric, out)
 }
 
 #[no_mangle]
 pub extern "C" fn gdl90_write_traffic(report: FlatReport, out: &mut [u8]) -> WriteAnswer
     ensures { λ r. ⌜ Wrote (goodFlatReport report) (reportBytes 20 (reportFrom report)) (now (out .entry)) r (now (out .exit)) ⌝ }
 {
-    flat::write_report(Traffic::ID, report, out)
+    face::write_report(Traffic::ID, report, out)
 }
 
 #[no_mangle]
 pub extern "C" fn gdl90_write_basic(basic: FlatBasic, out: &mut [u8]) -> WriteAnswer
     ensures { λ r. ⌜ Wrote (goodBasicPassThrough (basicFrom basic)) (basicPassThroughBytes (basicFrom basic)) (now (out .entry)) r (now (out .exit)) ⌝ }
 {
-    flat::write_basic(basic, out)
+    face::write_basic(basic, out)
 }
 
 #[no_mangle]
 pub extern "C" fn gdl90_write_long(long: FlatLong, out: &mut [u8]) -> WriteAnswer
     ensures { λ r. ⌜ Wrote (goodLongPassThrough (longFrom long)) (longPassThroughBytes (longFrom long)) (now (out .entry)) r (now (out .exit)) ⌝ }
 {
-    flat::write_long(long, out)
+    face::write_long(long, out)
 }

@@ -235,11 +235,6 @@ pub struct HeightRead {
     pub height: HeightAboveTerrain,
 }
 
-pub struct ReportRead {
-    pub number: u8,
-    pub report: Report,
-}
-
 pub struct GeometricRead {
     pub number: u8,
     pub geometric: GeometricAltitude,

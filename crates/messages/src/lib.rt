@@ -81,7 +81,8 @@ fn read_as(kind: Kind, message: &[u8]) -> Reading
         }
         Kind::Ownship => {
             let read = report::read_report(message);
-            let report = read.report;
+            let flat = read.report;
+            let report = flat::report_from(flat);
             as_reading(read.number, Message::Ownship(Ownship { report }))
         }
         Kind::Geometric => {
@@ -91,7 +92,8 @@ fn read_as(kind: Kind, message: &[u8]) -> Reading
         }
         Kind::Traffic => {
             let read = report::read_report(message);
-            let report = read.report;
+            let flat = read.report;
+            let report = flat::report_from(flat);
             as_reading(read.number, Message::Traffic(Traffic { report }))
         }
         Kind::Basic => {

@@ -10,13 +10,9 @@ use Rattle.fields.specs.Reading.{reading}
 use Rattle.report.specs.Marks.{isNone, placeOf, stepsOr, knotsOr, climbOr}
 use Rattle.report.specs.Bytes.{reportIn}
 use Rattle.kinds.specs.declared.Position.{Position}
-use Rattle.kinds.specs.declared.Position.the-variants.{At}
-use Rattle.kinds.specs.declared.Altitude.the-variants.{Known}
-use Rattle.kinds.specs.declared.TrackKind.the-variants.{NotValid}
-use Rattle.kinds.specs.declared.Speed.the-variants.{Knots}
-use Rattle.kinds.specs.declared.Climb.the-variants.{Steps}
 use Rattle.kinds.specs.declared.Report.{Report}
-use Rattle.kinds.specs.declared.ReportRead.{ReportRead}
+use Rattle.flat.specs.declared.FlatReportRead.{FlatReportRead}
+use Rattle.flat.specs.Flat.{flatReport}
 use Rattle.kinds.specs.declared.Message.{Message}
 use Rattle.kinds.specs.declared.Message.the-variants.{Ownship, Traffic}
 use Rattle.kinds.specs.declared.Reading.{Reading}
@@ -55,22 +51,30 @@ goodReport r =
     && between (negsuc 508) (pos 509) (climbOr (r .climb) (pos 0) (pos 0) (pos 0))
     && withinBits r
 
-abbrev pub reportRefused : ℕ → ReportRead
+abbrev pub reportAccepted : Report → FlatReportRead
+reportAccepted r = record { number = 0; report = flatReport r }
+
+abbrev pub reportRefused : ℕ → FlatReportRead
 reportRefused k = record {
   number = k;
   report = record {
     alert = 0;
     «address_type» = 0;
     address = 0;
-    position = At (pos 0) (pos 0);
-    altitude = Known (record { steps = 0 });
-    «track_kind» = NotValid;
+    «position_mark» = 0;
+    latitude = pos 0;
+    longitude = pos 0;
+    «altitude_mark» = 0;
+    altitude = 0;
+    «track_kind» = 0;
     extrapolated = false;
     airborne = false;
     integrity = 0;
     accuracy = 0;
-    speed = Knots 0;
-    climb = Steps (pos 0);
+    «speed_mark» = 0;
+    speed = 0;
+    «climb_mark» = 0;
+    climb = pos 0;
     track = 0;
     emitter = 0;
     «call_sign» = record { 0 = 0; 1 = 0; 2 = 0; 3 = 0; 4 = 0; 5 = 0; 6 = 0; 7 = 0 };
@@ -79,9 +83,9 @@ reportRefused k = record {
   };
 }
 
--- 01's number with the value, and the same as a message of whatever kind
-abbrev pub reportRead : List ℕ → ReportRead
-reportRead = reading 28 reportIn goodReport (λ r. record { number = 0; report = r }) reportRefused
+-- 01's number with the value in numbers, and the typed value as a message of whatever kind
+abbrev pub reportRead : List ℕ → FlatReportRead
+reportRead = reading 28 reportIn goodReport reportAccepted reportRefused
 
 -- the id says whose report it is: 10, the ownship's
 unfoldable pub carriedBy : ℕ → Report → Message

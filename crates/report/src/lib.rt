@@ -6,21 +6,22 @@ ghost use Rattle.fields.specs.Writing.{Wrote};
 ghost use Rattle.numbers.specs.Signed.{signedIn, fieldOf};
 ghost use Rattle.report.specs.Marks.{stepsOr, knotsOr, climbOr, placeOf, isNone, noneMark, kindNumber, bit, altitudeOf, speedOf, climbOf, positionOf, kindOf};
 ghost use Rattle.report.specs.Bytes.{three, threeAt, twelveHigh, highAt, twelveLow, lowAt, callSignIn, codesIn, codesOf, reportIn, packed, reportBytes};
-ghost use Rattle.report.specs.Reading.{between, goodPosition, withinBits, goodReport, reportRefused, reportRead};
+ghost use Rattle.report.specs.Reading.{between, goodPosition, withinBits, goodReport, reportAccepted, reportRefused, reportRead};
 use fields::Written;
+use flat::FlatReport;
+use flat::FlatReportRead;
 use kinds::Altitude;
 use kinds::Bytes8;
 use kinds::Climb;
 use kinds::Position;
 use kinds::Report;
-use kinds::ReportRead;
 use kinds::Speed;
 use kinds::TrackKind;
 use kinds::Traffic;
 use units::PressureSteps;
 
 // A report of either id.
-pub fn read_report(message: &[u8]) -> ReportRead
+pub fn read_report(message: &[u8]) -> FlatReportRead
     ensures { λ r. ⌜ r ≡ reportRead (now (message .entry)) ⌝ }
 {
     if message.len() != Traffic::LENGTH {
@@ -28,38 +29,47 @@ pub fn read_report(message: &[u8]) -> ReportRead
     }
     let report = report_in(message);
     if is_good_report(report) {
-        ReportRead { number: 0, report }
+        report_accepted(report)
     } else {
         report_refused(8)
     }
 }
 
-fn report_refused(number: u8) -> ReportRead
+fn report_accepted(report: Report) -> FlatReportRead
+    ensures { λ r. ⌜ r ≡ reportAccepted report ⌝ }
+{
+    let report = flat::flat_report(report);
+    FlatReportRead { number: 0, report }
+}
+
+fn report_refused(number: u8) -> FlatReportRead
     ensures { λ r. ⌜ r ≡ reportRefused number ⌝ }
 {
-    let report = Report {
+    let report = FlatReport {
         alert: 0,
         address_type: 0,
         address: 0,
-        position: Position::At {
-            latitude: 0,
-            longitude: 0,
-        },
-        altitude: Altitude::Known(PressureSteps { steps: 0 }),
-        track_kind: TrackKind::NotValid,
+        position_mark: 0,
+        latitude: 0,
+        longitude: 0,
+        altitude_mark: 0,
+        altitude: 0,
+        track_kind: 0,
         extrapolated: false,
         airborne: false,
         integrity: 0,
         accuracy: 0,
-        speed: Speed::Knots(0),
-        climb: Climb::Steps(0),
+        speed_mark: 0,
+        speed: 0,
+        climb_mark: 0,
+        climb: 0,
         track: 0,
         emitter: 0,
         call_sign: Bytes8(0, 0, 0, 0, 0, 0, 0, 0),
         priority: 0,
         spare: 0,
     };
-    ReportRead { number, report }
+    FlatReportRead { number, report }
 }
 
 // The report with this id.

@@ -71,9 +71,8 @@ readers! {
     read_initialization: gdl90_read_initialization -> RawInitialization;
     read_uplink: gdl90_read_uplink -> RawUplink;
     read_height: gdl90_read_height -> RawHeight;
-    read_ownship: gdl90_read_ownship -> RawReport;
     read_geometric: gdl90_read_geometric -> RawGeometric;
-    read_traffic: gdl90_read_traffic -> RawReport;
+    read_report: gdl90_read_report -> RawReport;
     read_basic: gdl90_read_basic -> RawBasic;
     read_long: gdl90_read_long -> RawLong;
 }
@@ -138,9 +137,9 @@ pub fn read(message: &[u8]) -> Result<Message, u8> {
             payload: message[4..].to_vec(),
         }),
         HEIGHT_ID => Message::Height(read_height(message).result()?.into()),
-        OWNSHIP_ID => Message::Ownship(read_ownship(message).result()?.into()),
+        OWNSHIP_ID => Message::Ownship(read_report(message).result()?.into()),
         GEOMETRIC_ID => Message::Geometric(read_geometric(message).result()?.into()),
-        TRAFFIC_ID => Message::Traffic(read_traffic(message).result()?.into()),
+        TRAFFIC_ID => Message::Traffic(read_report(message).result()?.into()),
         BASIC_ID => Message::Basic(read_basic(message).result()?.into()),
         LONG_ID => Message::Long(read_long(message).result()?.into()),
         _ => return Err(NOT_LISTED),

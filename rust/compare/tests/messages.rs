@@ -32,9 +32,9 @@ fn read_as(id: u8, message: &[u8]) -> Result<Message, u8> {
             Message::Uplink(Uplink { reception, payload })
         }),
         HEIGHT_ID => answer(read_height(message)).map(Message::Height),
-        OWNSHIP_ID => answer(read_ownship(message)).map(Message::Ownship),
+        OWNSHIP_ID => answer(read_report(message)).map(Message::Ownship),
         GEOMETRIC_ID => answer(read_geometric(message)).map(Message::Geometric),
-        TRAFFIC_ID => answer(read_traffic(message)).map(Message::Traffic),
+        TRAFFIC_ID => answer(read_report(message)).map(Message::Traffic),
         BASIC_ID => answer(read_basic(message)).map(Message::Basic),
         LONG_ID => answer(read_long(message)).map(Message::Long),
         _ => panic!("no kind has the id {id}"),
@@ -192,20 +192,29 @@ fn every_id_with_every_length_agrees() {
     }
 }
 
+/// Whether one function reads both: ownship and traffic share theirs.
+fn read_together(id: u8, other: u8) -> bool {
+    let is_report = |id| id == OWNSHIP_ID || id == TRAFFIC_ID;
+    id == other || is_report(id) && is_report(other)
+}
+
 /// A kind's function knows no id but its own.
 #[test]
 fn messages_of_other_kinds_are_not_listed() {
     let mut random = Xorshift::new(25);
     for (id, length) in LENGTHS {
         assert_eq!(read_as(id, &[]), Err(NOT_LISTED));
-        for other in (0..=255).filter(|&other| other != id) {
+        for other in (0..=255).filter(|&other| !read_together(id, other)) {
             let mut message = samples::whole(&mut random, id);
             message[0] = other;
             assert_eq!(read_as(id, &message), Err(NOT_LISTED), "{message:02X?}");
             message.truncate(random.below(length));
             assert_eq!(read_as(id, &message), Err(NOT_LISTED), "{message:02X?}");
         }
-        for (other, _) in LENGTHS.into_iter().filter(|&(other, _)| other != id) {
+        for (other, _) in LENGTHS
+            .into_iter()
+            .filter(|&(other, _)| !read_together(id, other))
+        {
             let message = samples::whole(&mut random, other);
             assert_eq!(read_as(id, &message), Err(NOT_LISTED), "{message:02X?}");
         }
@@ -268,7 +277,7 @@ fn every_number_in_a_heartbeat_agrees() {
 
 #[test]
 fn every_number_in_a_report_agrees() {
-    let example: Report = read_traffic(&SALEM).value.into();
+    let example: Report = read_report(&SALEM).value.into();
     for number in 0..=u16::MAX {
         for change in [
             |report: &mut Report, number| report.alert = number as u8,

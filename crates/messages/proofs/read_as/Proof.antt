@@ -1,6 +1,6 @@
 -- `messages::read_as` meets its contract, by the kind.
 -- Assumes nothing.
-use mathlib.Core.Path.{refl, _∙_}
+use mathlib.Core.Path.{refl, ap, _∙_}
 use Rattle.fields.proofs.Outcomes.{made}
 use Rattle.kinds.specs.declared.BasicRead.{BasicRead}
 use Rattle.kinds.specs.declared.GeometricRead.{GeometricRead}
@@ -8,7 +8,11 @@ use Rattle.kinds.specs.declared.HeartbeatRead.{HeartbeatRead}
 use Rattle.kinds.specs.declared.HeightRead.{HeightRead}
 use Rattle.kinds.specs.declared.InitializationRead.{InitializationRead}
 use Rattle.kinds.specs.declared.LongRead.{LongRead}
-use Rattle.kinds.specs.declared.ReportRead.{ReportRead}
+use Rattle.kinds.specs.declared.Report.{Report}
+use Rattle.kinds.specs.declared.Reading.the-variants.{Message as Accepted}
+use Rattle.flat.specs.declared.FlatReportRead.{FlatReportRead}
+use Rattle.flat.specs.Flat.{reportFrom}
+use Rattle.flat.proofs.Laws.{there-and-back}
 use Rattle.kinds.specs.declared.UplinkRead.{UplinkRead}
 use Rattle.kinds.specs.declared.Message.the-variants as kind
 use Rattle.report.specs.Reading.{carriedBy}
@@ -60,6 +64,9 @@ enum-told-5 c = search needs
 read-report-requires : tie.Need-read-report-requires
 read-report-requires c κs = search needs
 
+report-from-requires : tie.Need-report-from-requires
+report-from-requires c κs = search needs
+
 as-reading-requires-5 : tie.Need-as-reading-requires-5
 as-reading-requires-5 c κs = search needs
 
@@ -77,6 +84,9 @@ enum-told-7 c = search needs
 
 read-report-requires-2 : tie.Need-read-report-requires-2
 read-report-requires-2 c κs = search needs
+
+report-from-requires-2 : tie.Need-report-from-requires-2
+report-from-requires-2 c κs = search needs
 
 as-reading-requires-7 : tie.Need-as-reading-requires-7
 as-reading-requires-7 c κs = search needs
@@ -125,8 +135,11 @@ returns-4 c =
 returns-5 : tie.Need-returns-5
 unfolding carriedBy
 returns-5 c =
-    let r = c .before .before in
-    of-kind _ (r .before .enum-told5 .given .1) (c .as-reading5 .ensures ∙ made _ _ _ _ _ _ _ _ (λ (a : ReportRead). asReading (a .number) (kind.Ownship (record { report = a .report }))) (r .read-report .ensures) (λ x. refl) refl refl)
+    let r = c .before .before .before in
+    of-kind _ (r .before .enum-told5 .given .1)
+    (c .as-reading5 .ensures
+    ∙ ap (λ (x : Report). asReading (r .read-report .result .number) (kind.Ownship (record { report = x }))) (c .before .report-from .ensures)
+    ∙ made _ _ _ _ _ _ _ _ (λ (a : FlatReportRead). asReading (a .number) (kind.Ownship (record { report = reportFrom (a .report) }))) (r .read-report .ensures) (λ x. ap (λ (y : Report). Accepted (kind.Ownship (record { report = y }))) (there-and-back .2 x)) refl refl)
 
 returns-6 : tie.Need-returns-6
 returns-6 c =
@@ -136,8 +149,11 @@ returns-6 c =
 returns-7 : tie.Need-returns-7
 unfolding carriedBy
 returns-7 c =
-    let r = c .before .before in
-    of-kind _ (r .before .enum-told7 .given .1) (c .as-reading7 .ensures ∙ made _ _ _ _ _ _ _ _ (λ (a : ReportRead). asReading (a .number) (kind.Traffic (record { report = a .report }))) (r .read-report2 .ensures) (λ x. refl) refl refl)
+    let r = c .before .before .before in
+    of-kind _ (r .before .enum-told7 .given .1)
+    (c .as-reading7 .ensures
+    ∙ ap (λ (x : Report). asReading (r .read-report2 .result .number) (kind.Traffic (record { report = x }))) (c .before .report-from2 .ensures)
+    ∙ made _ _ _ _ _ _ _ _ (λ (a : FlatReportRead). asReading (a .number) (kind.Traffic (record { report = reportFrom (a .report) }))) (r .read-report2 .ensures) (λ x. ap (λ (y : Report). Accepted (kind.Traffic (record { report = y }))) (there-and-back .2 x)) refl refl)
 
 returns-8 : tie.Need-returns-8
 returns-8 c =
@@ -170,12 +186,14 @@ read-as-spec =
     as-reading-requires-4
     enum-told-5
     read-report-requires
+    report-from-requires
     as-reading-requires-5
     enum-told-6
     read-geometric-requires
     as-reading-requires-6
     enum-told-7
     read-report-requires-2
+    report-from-requires-2
     as-reading-requires-7
     enum-told-8
     read-basic-pass-through-requires

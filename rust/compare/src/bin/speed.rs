@@ -6,7 +6,7 @@ use std::hint::black_box;
 use std::time::Instant;
 
 use compare::messages::{
-    read_heartbeat, read_traffic, write_heartbeat, write_traffic, RawHeartbeat, RawReport,
+    read_heartbeat, read_report, write_heartbeat, write_traffic, RawHeartbeat, RawReport,
 };
 use reference::collecting::Answer;
 use reference::framing::{Framed, MESSAGE_MAX};
@@ -142,10 +142,10 @@ fn measure_traffic(messages: &[Vec<u8>]) {
     measure(
         "read_traffic",
         messages,
-        |message| read_traffic(message),
+        |message| read_report(message),
         |message| reference_read_traffic(message),
     );
-    let raws = messages.iter().map(|message| read_traffic(message).value);
+    let raws = messages.iter().map(|message| read_report(message).value);
     let values: Vec<(RawReport, Report)> = raws.map(|raw| (raw, raw.into())).collect();
     let (mut proved, mut expected) = ([0; ROOM], [0; ROOM]);
     measure(
