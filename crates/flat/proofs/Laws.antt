@@ -41,7 +41,7 @@ unfolding altitudeFrom
 altitudes (altitude.Known p) = refl
 altitudes altitude.None = refl
 
-tracks : (x : TrackKind) → trackFrom (trackNumber x) ≡ x
+pub tracks : (x : TrackKind) → trackFrom (trackNumber x) ≡ x
 unfolding trackFrom
 tracks track.NotValid = refl
 tracks track.TrueTrack = refl

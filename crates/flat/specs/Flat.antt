@@ -88,13 +88,14 @@ unfoldable pub altitudeFrom : ℕ → ℕ → Altitude
 altitudeFrom mark n =
     cond (eqb mark 0) (altitude.Known (record { steps = n })) (cond (eqb mark 1) altitude.None (altitude.Known (record { steps = 0xFFF })))
 
+-- 001 Table 9
 abbrev pub trackNumber : TrackKind → ℕ
 trackNumber track.NotValid = 0
 trackNumber track.TrueTrack = 1
 trackNumber track.MagneticHeading = 2
 trackNumber track.TrueHeading = 3
 
--- of a number up to 3; writing refuses any other with 8
+-- of a number up to 3; writing a struct refuses any other with 8
 unfoldable pub trackFrom : ℕ → TrackKind
 trackFrom n = cond (eqb n 0) track.NotValid (cond (eqb n 1) track.TrueTrack (cond (eqb n 2) track.MagneticHeading track.TrueHeading))
 

@@ -273,7 +273,7 @@ fn altitude_from(mark: u8, steps: u16) -> Altitude
     Altitude::Known(PressureSteps { steps: 0xFFF })
 }
 
-fn track_number(kind: TrackKind) -> u8
+pub fn track_number(kind: TrackKind) -> u8
     ensures { λ r. ⌜ r ≡ trackNumber kind ⌝ }
 {
     match kind {
@@ -284,7 +284,7 @@ fn track_number(kind: TrackKind) -> u8
     }
 }
 
-fn track_from(number: u8) -> TrackKind
+pub fn track_from(number: u8) -> TrackKind
     ensures { λ r. ⌜ r ≡ trackFrom number ⌝ }
 {
     if number == 0 {

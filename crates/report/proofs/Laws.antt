@@ -8,12 +8,14 @@ use lib.Dec.{eqb}
 use borrow.Author.Tests.{ltb-true}
 use Rattle.numbers.specs.Signed.{signedIn, fieldOf}
 use Rattle.numbers.proofs.Every.{both}
-use Rattle.report.specs.Marks.{positionOf, altitudeOf, kindOf, speedOf, climbOf}
+use Rattle.flat.specs.Flat.{trackFrom}
+use Rattle.flat.proofs.Laws.{tracks}
+use Rattle.report.specs.Marks.{positionOf, altitudeOf, speedOf, climbOf}
 use Rattle.report.specs.Bytes.{codesIn, codesOf, reportIn, packed, reportBytes}
 use Rattle.fields.specs.Reading.{reading}
 use Rattle.report.specs.Reading.{goodReport, goodPosition, carriedBy}
 use Rattle.report.specs.Claims.{ReportWrittenRead, ReportReadWritten, ReportExamples}
-use Rattle.report.proofs.Marked.{altitude-code, altitude-back, speed-code, speed-back, climb-code, climb-back, kind-code, kind-back, bit-code, bit-back, position-code, position-back}
+use Rattle.report.proofs.Marked.{altitude-code, altitude-back, speed-code, speed-back, climb-code, climb-back, kind-code, kind-fits, bit-code, bit-back, position-code, position-back}
 use Rattle.report.proofs.Packing.{Fit, from-three, upper, lower, codes-back, fit-in, bytes-back}
 
 -- the numbers that stand for the report in the bytes are those in the bytes
@@ -46,7 +48,6 @@ written-read id r g =
     let d = both _ _ (h .0) in
     let position = position-back (r .position) (r .integrity) (d .0) in
     let altitude = altitude-back (r .altitude) (d .1) in
-    let kind = kind-back (r .«track_kind») in
     let extrapolated = bit-back (r .extrapolated) in
     let airborne = bit-back (r .airborne) in
     let speed = speed-back (r .speed) (h .1) in
@@ -64,7 +65,7 @@ written-read id r g =
       latitude-fits = position .1;
       longitude-fits = position .2;
       altitude-fits = altitude .1;
-      kind-fits = kind .1;
+      kind-fits = kind-fits (r .«track_kind»);
       extrapolated-fits = extrapolated .1;
       airborne-fits = airborne .1;
       speed-fits = speed .1;
@@ -76,7 +77,7 @@ written-read id r g =
       address = from-three (r .address) (ltb-true _ _ (address .1)) i;
       position = ((λ j. positionOf (codes j .latitude) (codes j .longitude) (i' j)) ∙ position .0) i;
       altitude = ((λ j. altitudeOf (codes j .altitude)) ∙ altitude .0) i;
-      «track_kind» = ((λ j. kindOf (codes j .kind)) ∙ kind .0) i;
+      «track_kind» = ((λ j. trackFrom (codes j .kind)) ∙ tracks (r .«track_kind»)) i;
       extrapolated = ((λ j. eqb (codes j .extrapolated) 1) ∙ extrapolated .0) i;
       airborne = ((λ j. eqb (codes j .airborne) 1) ∙ airborne .0) i;
       integrity = i' i;
@@ -91,5 +92,5 @@ written-read id r g =
     }
 
 pub examples-hold : ReportExamples
-unfolding reading carriedBy reportIn goodReport goodPosition positionOf altitudeOf kindOf speedOf climbOf signedIn fieldOf
+unfolding reading carriedBy reportIn goodReport goodPosition positionOf altitudeOf trackFrom speedOf climbOf signedIn fieldOf
 examples-hold = (refl, refl, refl, refl, refl, refl)

@@ -11,7 +11,8 @@ use borrow.Author.Tests.{ne-eqb, ltb-true, eqb-true, leb-true, le-leb, lt-leb}
 use Rattle.numbers.proofs.Every.{both, chosen, every, at}
 use Rattle.numbers.proofs.Signed.{field-signed, signed-field, field-fits}
 use Rattle.numbers.specs.Signed.{signedIn, fieldOf}
-use Rattle.report.specs.Marks.{noneMark, positionOf, isNone, placeOf, altitudeOf, stepsOr, kindOf, kindNumber, bit, speedOf, knotsOr, climbOf, climbOr}
+use Rattle.flat.specs.Flat.{trackNumber, trackFrom}
+use Rattle.report.specs.Marks.{noneMark, positionOf, isNone, placeOf, altitudeOf, stepsOr, bit, speedOf, knotsOr, climbOf, climbOr}
 use Rattle.report.specs.Reading.{between, isZero, goodPosition}
 use Rattle.kinds.specs.declared.Position.{Position}
 use Rattle.kinds.specs.declared.Position.the-variants.{At, None as no-position}
@@ -89,16 +90,15 @@ climb-back no-climb g = (refl, omega arith)
 
 -- ---- the track's kind, and bits
 
-pub kind-code : (n : ℕ) → n < 4 → kindNumber (kindOf n) ≡ n
-unfolding kindOf every
-kind-code n h = eqb-true _ n (at (λ k. eqb (kindNumber (kindOf k)) k) 4 refl n h)
+pub kind-code : (n : ℕ) → n < 4 → trackNumber (trackFrom n) ≡ n
+unfolding trackFrom every
+kind-code n h = eqb-true _ n (at (λ k. eqb (trackNumber (trackFrom k)) k) 4 refl n h)
 
-pub kind-back : (k : TrackKind) → (kindOf (kindNumber k) ≡ k) × (kindNumber k < 4)
-unfolding kindOf
-kind-back NotValid = (refl, omega arith)
-kind-back TrueTrack = (refl, omega arith)
-kind-back MagneticHeading = (refl, omega arith)
-kind-back TrueHeading = (refl, omega arith)
+pub kind-fits : (k : TrackKind) → trackNumber k < 4
+kind-fits NotValid = omega arith
+kind-fits TrueTrack = omega arith
+kind-fits MagneticHeading = omega arith
+kind-fits TrueHeading = omega arith
 
 pub bit-code : (n : ℕ) → n < 2 → bit (eqb n 1) ≡ n
 unfolding every

@@ -7,7 +7,8 @@ use lib.Dec.{eqb}
 use lib.IntN.{pos, negsuc}
 use lib.ListN.{getD}
 use Rattle.numbers.specs.Signed.{fieldOf}
-use Rattle.report.specs.Marks.{positionOf, placeOf, altitudeOf, stepsOr, kindOf, kindNumber, bit, speedOf, knotsOr, climbOf, climbOr}
+use Rattle.flat.specs.Flat.{trackNumber, trackFrom}
+use Rattle.report.specs.Marks.{positionOf, placeOf, altitudeOf, stepsOr, bit, speedOf, knotsOr, climbOf, climbOr}
 use Rattle.kinds.specs.declared.Bytes8.{Bytes8}
 use Rattle.report.specs.declared.Codes.{Codes}
 use Rattle.kinds.specs.declared.Report.{Report}
@@ -56,7 +57,7 @@ reportIn m = record {
   address = threeAt m 2;
   position = positionOf (codesIn m .latitude) (codesIn m .longitude) (getD m 13 0 / 16);
   altitude = altitudeOf (codesIn m .altitude);
-  «track_kind» = kindOf (codesIn m .kind);
+  «track_kind» = trackFrom (codesIn m .kind);
   extrapolated = eqb (codesIn m .extrapolated) 1;
   airborne = eqb (codesIn m .airborne) 1;
   integrity = getD m 13 0 / 16;
@@ -76,7 +77,7 @@ codesOf r = record {
   latitude = fieldOf 0x800000 (placeOf (r .position) .latitude);
   longitude = fieldOf 0x800000 (placeOf (r .position) .longitude);
   altitude = stepsOr (r .altitude) 0xFFF;
-  kind = kindNumber (r .«track_kind»);
+  kind = trackNumber (r .«track_kind»);
   extrapolated = bit (r .extrapolated);
   airborne = bit (r .airborne);
   speed = knotsOr (r .speed) 0xFFE 0xFFF;

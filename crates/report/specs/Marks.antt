@@ -10,8 +10,6 @@ use Rattle.kinds.specs.declared.Position.the-variants.{At, None as no-position}
 use Rattle.report.specs.declared.Place.{Place}
 use Rattle.kinds.specs.declared.Altitude.{Altitude}
 use Rattle.kinds.specs.declared.Altitude.the-variants.{Known, None as no-altitude}
-use Rattle.kinds.specs.declared.TrackKind.{TrackKind}
-use Rattle.kinds.specs.declared.TrackKind.the-variants.{NotValid, TrueTrack, MagneticHeading, TrueHeading}
 use Rattle.kinds.specs.declared.Speed.{Speed}
 use Rattle.kinds.specs.declared.Speed.the-variants.{Knots, Over, None as no-speed}
 use Rattle.kinds.specs.declared.Climb.{Climb}
@@ -40,16 +38,6 @@ altitudeOf d = cond (eqb d 0xFFF) no-altitude (Known (record { steps = d }))
 abbrev pub stepsOr : Altitude → ℕ → ℕ
 stepsOr (Known d) none = d .steps
 stepsOr no-altitude none = none
-
--- 001 Table 9
-unfoldable pub kindOf : ℕ → TrackKind
-kindOf n = cond (eqb n 0) NotValid (cond (eqb n 1) TrueTrack (cond (eqb n 2) MagneticHeading TrueHeading))
-
-abbrev pub kindNumber : TrackKind → ℕ
-kindNumber NotValid = 0
-kindNumber TrueTrack = 1
-kindNumber MagneticHeading = 2
-kindNumber TrueHeading = 3
 
 abbrev pub bit : Bool → ℕ
 bit b = cond b 1 0

@@ -4,7 +4,7 @@ ghost use Prim.Native.Nat.{_+_, _-_, _<_, _≤_};
 ghost use lib.ListN.{length};
 ghost use Rattle.fields.specs.Writing.{Wrote};
 ghost use Rattle.numbers.specs.Signed.{signedIn, fieldOf};
-ghost use Rattle.report.specs.Marks.{stepsOr, knotsOr, climbOr, placeOf, isNone, noneMark, kindNumber, bit, altitudeOf, speedOf, climbOf, positionOf, kindOf};
+ghost use Rattle.report.specs.Marks.{stepsOr, knotsOr, climbOr, placeOf, isNone, noneMark, bit, altitudeOf, speedOf, climbOf, positionOf};
 ghost use Rattle.report.specs.Bytes.{three, threeAt, twelveHigh, highAt, twelveLow, lowAt, callSignIn, codesIn, codesOf, reportIn, packed, reportBytes};
 ghost use Rattle.report.specs.Reading.{between, goodPosition, withinBits, goodReport, reportAccepted, reportRefused, reportRead};
 use fields::Written;
@@ -16,7 +16,6 @@ use kinds::Climb;
 use kinds::Position;
 use kinds::Report;
 use kinds::Speed;
-use kinds::TrackKind;
 use kinds::Traffic;
 use units::PressureSteps;
 
@@ -170,7 +169,7 @@ fn codes_of(report: Report) -> Codes
         latitude: field_of(at.latitude, 0x800000),
         longitude: field_of(at.longitude, 0x800000),
         altitude: steps_or(altitude, 0xFFF),
-        kind: kind_number(kind),
+        kind: flat::track_number(kind),
         extrapolated: bit_of(report.extrapolated),
         airborne: bit_of(report.airborne),
         speed: knots_or(speed, 0xFFE, 0xFFF),
@@ -192,7 +191,7 @@ fn report_in(message: &[u8]) -> Report
         address: three_at(message, 2),
         position: position_of(codes.latitude, codes.longitude, quality / 16),
         altitude: altitude_of(codes.altitude),
-        track_kind: kind_of(codes.kind),
+        track_kind: flat::track_from(codes.kind),
         extrapolated: codes.extrapolated == 1,
         airborne: codes.airborne == 1,
         integrity: quality / 16,
@@ -369,32 +368,6 @@ fn steps_or(altitude: Altitude, none: u16) -> u16
     match altitude {
         Altitude::Known(p) => p.steps,
         Altitude::None => none,
-    }
-}
-
-fn kind_of(code: u8) -> TrackKind
-    ensures { λ r. ⌜ r ≡ kindOf code ⌝ }
-{
-    if code == 0 {
-        return TrackKind::NotValid;
-    }
-    if code == 1 {
-        return TrackKind::TrueTrack;
-    }
-    if code == 2 {
-        return TrackKind::MagneticHeading;
-    }
-    TrackKind::TrueHeading
-}
-
-fn kind_number(kind: TrackKind) -> u8
-    ensures { λ r. ⌜ r ≡ kindNumber kind ⌝ }
-{
-    match kind {
-        TrackKind::NotValid => 0,
-        TrackKind::TrueTrack => 1,
-        TrackKind::MagneticHeading => 2,
-        TrackKind::TrueHeading => 3,
     }
 }
 

@@ -20,8 +20,8 @@ field-of-requires-2 c κs = search needs
 steps-or-requires : tie.Need-steps-or-requires
 steps-or-requires c κs = search needs
 
-kind-number-requires : tie.Need-kind-number-requires
-kind-number-requires c κs = search needs
+track-number-requires : tie.Need-track-number-requires
+track-number-requires c κs = search needs
 
 bit-of-requires : tie.Need-bit-of-requires
 bit-of-requires c κs = search needs
@@ -54,7 +54,7 @@ returns c =
       latitude = lat i;
       longitude = lon i;
       altitude = k .before .steps-or .ensures i;
-      kind = k .kind-number .ensures i;
+      kind = k .track-number .ensures i;
       extrapolated = c .before .before .before .before .bit-of .ensures i;
       airborne = c .before .before .before .bit-of2 .ensures i;
       speed = c .before .before .knots-or .ensures i;
@@ -69,7 +69,7 @@ codes-of-spec =
     field-of-requires
     field-of-requires-2
     steps-or-requires
-    kind-number-requires
+    track-number-requires
     bit-of-requires
     bit-of-requires-2
     knots-or-requires

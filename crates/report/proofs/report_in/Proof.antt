@@ -4,7 +4,8 @@ use mathlib.Core.Path.{_∙_}
 use Prim.Native.Nat.{_/_, _%_}
 use lib.Dec.{eqb}
 use lib.ListN.{getD}
-use Rattle.report.specs.Marks.{positionOf, altitudeOf, kindOf, speedOf, climbOf}
+use Rattle.flat.specs.Flat.{trackFrom}
+use Rattle.report.specs.Marks.{positionOf, altitudeOf, speedOf, climbOf}
 use Rattle.report.specs.Bytes.{reportIn}
 use borrow.Author.Needs.{needs}
 use Rattle.report.proofs.report_in.Statement.{statement}
@@ -31,8 +32,8 @@ position-of-requires c κs = search needs
 altitude-of-requires : tie.Need-altitude-of-requires
 altitude-of-requires c κs = search needs
 
-kind-of-requires : tie.Need-kind-of-requires
-kind-of-requires c κs = search needs
+track-from-requires : tie.Need-track-from-requires
+track-from-requires c κs = search needs
 
 speed-of-requires : tie.Need-speed-of-requires
 speed-of-requires c κs = search needs
@@ -64,7 +65,7 @@ returns c =
       address = t .three-at .ensures i;
       position = (p .position-of .ensures ∙ (λ j. positionOf (codes j .latitude) (codes j .longitude) (getD m 13 0 / 16))) i;
       altitude = (a .altitude-of .ensures ∙ (λ j. altitudeOf (codes j .altitude))) i;
-      «track_kind» = (s .before .before .before .kind-of .ensures ∙ (λ j. kindOf (codes j .kind))) i;
+      «track_kind» = (s .before .before .before .track-from .ensures ∙ (λ j. trackFrom (codes j .kind))) i;
       extrapolated = eqb (codes i .extrapolated) 1;
       airborne = eqb (codes i .airborne) 1;
       integrity = getD m 13 0 / 16;
@@ -89,7 +90,7 @@ report-in-spec =
     three-at-requires
     position-of-requires
     altitude-of-requires
-    kind-of-requires
+    track-from-requires
     speed-of-requires
     climb-of-requires
     shared-slice-read-t23
