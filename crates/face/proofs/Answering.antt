@@ -10,11 +10,11 @@ use Rattle.fields.specs.declared.Written.{Written}
 use Rattle.fields.specs.Writing.{output, writing}
 use Rattle.fields.specs.Writing as fields
 use Rattle.face.specs.declared.WriteAnswer.{WriteAnswer}
-use Rattle.face.specs.Answers.{writeAnswer, Told, Wrote}
+use Rattle.face.specs.Answers.{writeAnswer, AnsweredBy, AnsweredWriting}
 
 module _ {out left : List ℕ} {w : Written} {r : WriteAnswer} (answer : r ≡ writeAnswer w) where
-  pub told : {X : Type 0} (way : X → Written) (bytes : X → List ℕ) {x y : X} → x ≡ y → w ≡ way x → left ≡ written (output w (bytes x)) out → Told (way y) (bytes y) out r left
-  told way bytes {x = x} e a l = subst (λ (y : _). Told (way y) (bytes y) out r left) e (record { answers = answer ∙ ap writeAnswer a; leaves = l ∙ ap (λ (v : Written). written (output v (bytes x)) out) a })
+  pub told : {X : Type 0} (way : X → Written) (bytes : X → List ℕ) {x y : X} → x ≡ y → w ≡ way x → left ≡ written (output w (bytes x)) out → AnsweredBy (way y) (bytes y) out r left
+  told way bytes {x = x} e a l = subst (λ (y : _). AnsweredBy (way y) (bytes y) out r left) e (record { answers = answer ∙ ap writeAnswer a; leaves = l ∙ ap (λ (v : Written). written (output v (bytes x)) out) a })
 
-  pub wrote : {X : Type 0} (good : X → Bool) (bytes : X → List ℕ) {x y : X} → x ≡ y → fields.Wrote (good x) (bytes x) out w left → Wrote (good y) (bytes y) out r left
+  pub wrote : {X : Type 0} (good : X → Bool) (bytes : X → List ℕ) {x y : X} → x ≡ y → fields.Wrote (good x) (bytes x) out w left → AnsweredWriting (good y) (bytes y) out r left
   wrote good bytes e h = told (λ (x : _). writing (good x) (bytes x) (length out)) bytes e (h .answers) (h .leaves)

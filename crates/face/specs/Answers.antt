@@ -68,12 +68,12 @@ abbrev pub writeAnswer : Written → WriteAnswer
 writeAnswer w = record { number = number w; length = size w }
 
 -- what a way of writing answers and leaves
-pub record Told (w : Written) (bytes out : List ℕ) (answer : WriteAnswer) (left : List ℕ) : Type 0 where
+pub record AnsweredBy (w : Written) (bytes out : List ℕ) (answer : WriteAnswer) (left : List ℕ) : Type 0 where
   pub answers : answer ≡ writeAnswer w
   pub leaves : left ≡ written (output w bytes) out
 
-abbrev pub Wrote : Bool → List ℕ → List ℕ → WriteAnswer → List ℕ → Type 0
-Wrote good bytes out answer left = Told (writing good bytes (length out)) bytes out answer left
+abbrev pub AnsweredWriting : Bool → List ℕ → List ℕ → WriteAnswer → List ℕ → Type 0
+AnsweredWriting good bytes out answer left = AnsweredBy (writing good bytes (length out)) bytes out answer left
 
 -- a number that is no track kind is a field outside its range
 abbrev pub goodFlatReport : FlatReport → Bool

@@ -10,7 +10,7 @@ ghost use Rattle.passing.specs.PassThrough.{goodBasicPassThrough, basicPassThro
 ghost use Rattle.report.specs.Bytes.{reportBytes};
 ghost use Rattle.flat.specs.Flat.{uplinkFrom, terrainFrom, reportFrom, geometricFrom, basicFrom, longFrom};
 ghost use Rattle.face.specs.Answers.{ofKind, ofReport, numbered, heartbeatAnswer, initializationAnswer, uplinkAnswer, heightAnswer, reportAnswer, geometricAnswer};
-ghost use Rattle.face.specs.Answers.{basicAnswer, longAnswer, writeAnswer, Told, Wrote, goodFlatReport};
+ghost use Rattle.face.specs.Answers.{basicAnswer, longAnswer, writeAnswer, AnsweredBy, AnsweredWriting, goodFlatReport};
 use fields::Written;
 use flat::FlatBasic;
 use flat::FlatBasicRead;
@@ -176,14 +176,14 @@ pub fn read_report(message: &[u8]) -> FlatReportRead
 }
 
 pub fn write_heartbeat(heartbeat: Heartbeat, out: &mut [u8]) -> WriteAnswer
-    ensures { λ r. ⌜ Wrote (goodHeartbeat heartbeat) (heartbeatBytes heartbeat) (now (out .entry)) r (now (out .exit)) ⌝ }
+    ensures { λ r. ⌜ AnsweredWriting (goodHeartbeat heartbeat) (heartbeatBytes heartbeat) (now (out .entry)) r (now (out .exit)) ⌝ }
 {
     let written = status::write_heartbeat(heartbeat, out);
     write_answer(written)
 }
 
 pub fn write_initialization(initialization: Initialization, out: &mut [u8]) -> WriteAnswer
-    ensures { λ r. ⌜ Wrote (goodInitialization initialization) (initializationBytes initialization) (now (out .entry)) r (now (out .exit)) ⌝ }
+    ensures { λ r. ⌜ AnsweredWriting (goodInitialization initialization) (initializationBytes initialization) (now (out .entry)) r (now (out .exit)) ⌝ }
 {
     let written = status::write_initialization(initialization, out);
     write_answer(written)
@@ -191,7 +191,7 @@ pub fn write_initialization(initialization: Initialization, out: &mut [u8]) -> W
 
 // The payload is given beside the struct.
 pub fn write_uplink(uplink: FlatUplink, payload: &[u8], out: &mut [u8]) -> WriteAnswer
-    ensures { λ r. ⌜ Told (writingUplink (uplinkFrom uplink) (now (payload .entry)) (length (now (out .entry)))) (uplinkBytes (uplinkFrom uplink) (now (payload .entry))) (now (out .entry)) r (now (out .exit)) ⌝ }
+    ensures { λ r. ⌜ AnsweredBy (writingUplink (uplinkFrom uplink) (now (payload .entry)) (length (now (out .entry)))) (uplinkBytes (uplinkFrom uplink) (now (payload .entry))) (now (out .entry)) r (now (out .exit)) ⌝ }
 {
     let value = flat::uplink_from(uplink);
     let written = passing::write_uplink(value, payload, out);
@@ -199,7 +199,7 @@ pub fn write_uplink(uplink: FlatUplink, payload: &[u8], out: &mut [u8]) -> Write
 }
 
 pub fn write_height(height: FlatHeight, out: &mut [u8]) -> WriteAnswer
-    ensures { λ r. ⌜ Wrote (goodTerrain (terrainFrom height)) (terrainBytes (terrainFrom height)) (now (out .entry)) r (now (out .exit)) ⌝ }
+    ensures { λ r. ⌜ AnsweredWriting (goodTerrain (terrainFrom height)) (terrainBytes (terrainFrom height)) (now (out .entry)) r (now (out .exit)) ⌝ }
 {
     let value = flat::terrain_from(height);
     let written = altitudes::write_height(value, out);
@@ -207,7 +207,7 @@ pub fn write_height(height: FlatHeight, out: &mut [u8]) -> WriteAnswer
 }
 
 pub fn write_geometric(geometric: FlatGeometric, out: &mut [u8]) -> WriteAnswer
-    ensures { λ r. ⌜ Wrote (goodGeometric (geometricFrom geometric)) (geometricBytes (geometricFrom geometric)) (now (out .entry)) r (now (out .exit)) ⌝ }
+    ensures { λ r. ⌜ AnsweredWriting (goodGeometric (geometricFrom geometric)) (geometricBytes (geometricFrom geometric)) (now (out .entry)) r (now (out .exit)) ⌝ }
 {
     let value = flat::geometric_from(geometric);
     let written = altitudes::write_geometric(value, out);
@@ -215,7 +215,7 @@ pub fn write_geometric(geometric: FlatGeometric, out: &mut [u8]) -> WriteAnswer
 }
 
 pub fn write_basic(basic: FlatBasic, out: &mut [u8]) -> WriteAnswer
-    ensures { λ r. ⌜ Wrote (goodBasicPassThrough (basicFrom basic)) (basicPassThroughBytes (basicFrom basic)) (now (out .entry)) r (now (out .exit)) ⌝ }
+    ensures { λ r. ⌜ AnsweredWriting (goodBasicPassThrough (basicFrom basic)) (basicPassThroughBytes (basicFrom basic)) (now (out .entry)) r (now (out .exit)) ⌝ }
 {
     let value = flat::basic_from(basic);
     let written = passing::write_basic_pass_through(value, out);
@@ -223,7 +223,7 @@ pub fn write_basic(basic: FlatBasic, out: &mut [u8]) -> WriteAnswer
 }
 
 pub fn write_long(long: FlatLong, out: &mut [u8]) -> WriteAnswer
-    ensures { λ r. ⌜ Wrote (goodLongPassThrough (longFrom long)) (longPassThroughBytes (longFrom long)) (now (out .entry)) r (now (out .exit)) ⌝ }
+    ensures { λ r. ⌜ AnsweredWriting (goodLongPassThrough (longFrom long)) (longPassThroughBytes (longFrom long)) (now (out .entry)) r (now (out .exit)) ⌝ }
 {
     let value = flat::long_from(long);
     let written = passing::write_long_pass_through(value, out);
@@ -232,7 +232,7 @@ pub fn write_long(long: FlatLong, out: &mut [u8]) -> WriteAnswer
 
 // With the id given.
 pub fn write_report(id: u8, report: FlatReport, out: &mut [u8]) -> WriteAnswer
-    ensures { λ r. ⌜ Wrote (goodFlatReport report) (reportBytes id (reportFrom report)) (now (out .entry)) r (now (out .exit)) ⌝ }
+    ensures { λ r. ⌜ AnsweredWriting (goodFlatReport report) (reportBytes id (reportFrom report)) (now (out .entry)) r (now (out .exit)) ⌝ }
 {
     if report.track_kind <= 3 {
         let value = flat::report_from(report);

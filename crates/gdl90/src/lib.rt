@@ -15,7 +15,7 @@ ghost use Rattle.passing.specs.PassThrough.{goodBasicPassThrough, basicPassThro
 ghost use Rattle.report.specs.Bytes.{reportBytes};
 ghost use Rattle.flat.specs.Flat.{uplinkFrom, terrainFrom, reportFrom, geometricFrom, basicFrom, longFrom};
 ghost use Rattle.face.specs.Answers.{ofKind, ofReport, heartbeatAnswer, initializationAnswer, uplinkAnswer, heightAnswer, reportAnswer, geometricAnswer, basicAnswer, longAnswer};
-ghost use Rattle.face.specs.Answers.{Told, Wrote, goodFlatReport};
+ghost use Rattle.face.specs.Answers.{AnsweredBy, AnsweredWriting, goodFlatReport};
 ghost use Rattle.gdl90.specs.Face.{frameAnswer, phaseNumber, phaseOf, controlOf, answerNumber, messageLength, feedAnswer, ranAnswer};
 use collecting::Answer;
 use collecting::Control;
@@ -262,7 +262,7 @@ pub extern "C" fn gdl90_read_long(message: &[u8]) -> FlatLongRead
 // A struct's bytes to the start of the output: 01's number and how many; an uplink's payload is given beside it.
 #[no_mangle]
 pub extern "C" fn gdl90_write_heartbeat(heartbeat: Heartbeat, out: &mut [u8]) -> WriteAnswer
-    ensures { λ r. ⌜ Wrote (goodHeartbeat heartbeat) (heartbeatBytes heartbeat) (now (out .entry)) r (now (out .exit)) ⌝ }
+    ensures { λ r. ⌜ AnsweredWriting (goodHeartbeat heartbeat) (heartbeatBytes heartbeat) (now (out .entry)) r (now (out .exit)) ⌝ }
 {
     face::write_heartbeat(heartbeat, out)
 }
@@ -272,7 +272,7 @@ pub extern "C" fn gdl90_write_initialization(
     initialization: Initialization,
     out: &mut [u8],
 ) -> WriteAnswer
-    ensures { λ r. ⌜ Wrote (goodInitialization initialization) (initializationBytes initialization) (now (out .entry)) r (now (out .exit)) ⌝ }
+    ensures { λ r. ⌜ AnsweredWriting (goodInitialization initialization) (initializationBytes initialization) (now (out .entry)) r (now (out .exit)) ⌝ }
 {
     face::write_initialization(initialization, out)
 }
@@ -283,49 +283,49 @@ pub extern "C" fn gdl90_write_uplink(
     payload: &[u8],
     out: &mut [u8],
 ) -> WriteAnswer
-    ensures { λ r. ⌜ Told (writingUplink (uplinkFrom uplink) (now (payload .entry)) (length (now (out .entry)))) (uplinkBytes (uplinkFrom uplink) (now (payload .entry))) (now (out .entry)) r (now (out .exit)) ⌝ }
+    ensures { λ r. ⌜ AnsweredBy (writingUplink (uplinkFrom uplink) (now (payload .entry)) (length (now (out .entry)))) (uplinkBytes (uplinkFrom uplink) (now (payload .entry))) (now (out .entry)) r (now (out .exit)) ⌝ }
 {
     face::write_uplink(uplink, payload, out)
 }
 
 #[no_mangle]
 pub extern "C" fn gdl90_write_height(height: FlatHeight, out: &mut [u8]) -> WriteAnswer
-    ensures { λ r. ⌜ Wrote (goodTerrain (terrainFrom height)) (terrainBytes (terrainFrom height)) (now (out .entry)) r (now (out .exit)) ⌝ }
+    ensures { λ r. ⌜ AnsweredWriting (goodTerrain (terrainFrom height)) (terrainBytes (terrainFrom height)) (now (out .entry)) r (now (out .exit)) ⌝ }
 {
     face::write_height(height, out)
 }
 
 #[no_mangle]
 pub extern "C" fn gdl90_write_ownship(report: FlatReport, out: &mut [u8]) -> WriteAnswer
-    ensures { λ r. ⌜ Wrote (goodFlatReport report) (reportBytes 10 (reportFrom report)) (now (out .entry)) r (now (out .exit)) ⌝ }
+    ensures { λ r. ⌜ AnsweredWriting (goodFlatReport report) (reportBytes 10 (reportFrom report)) (now (out .entry)) r (now (out .exit)) ⌝ }
 {
     face::write_report(Ownship::ID, report, out)
 }
 
 #[no_mangle]
 pub extern "C" fn gdl90_write_geometric(geometric: FlatGeometric, out: &mut [u8]) -> WriteAnswer
-    ensures { λ r. ⌜ Wrote (goodGeometric (geometricFrom geometric)) (geometricBytes (geometricFrom geometric)) (now (out .entry)) r (now (out .exit)) ⌝ }
+    ensures { λ r. ⌜ AnsweredWriting (goodGeometric (geometricFrom geometric)) (geometricBytes (geometricFrom geometric)) (now (out .entry)) r (now (out .exit)) ⌝ }
 {
     face::write_geometric(geometric, out)
 }
 
 #[no_mangle]
 pub extern "C" fn gdl90_write_traffic(report: FlatReport, out: &mut [u8]) -> WriteAnswer
-    ensures { λ r. ⌜ Wrote (goodFlatReport report) (reportBytes 20 (reportFrom report)) (now (out .entry)) r (now (out .exit)) ⌝ }
+    ensures { λ r. ⌜ AnsweredWriting (goodFlatReport report) (reportBytes 20 (reportFrom report)) (now (out .entry)) r (now (out .exit)) ⌝ }
 {
     face::write_report(Traffic::ID, report, out)
 }
 
 #[no_mangle]
 pub extern "C" fn gdl90_write_basic(basic: FlatBasic, out: &mut [u8]) -> WriteAnswer
-    ensures { λ r. ⌜ Wrote (goodBasicPassThrough (basicFrom basic)) (basicPassThroughBytes (basicFrom basic)) (now (out .entry)) r (now (out .exit)) ⌝ }
+    ensures { λ r. ⌜ AnsweredWriting (goodBasicPassThrough (basicFrom basic)) (basicPassThroughBytes (basicFrom basic)) (now (out .entry)) r (now (out .exit)) ⌝ }
 {
     face::write_basic(basic, out)
 }
 
 #[no_mangle]
 pub extern "C" fn gdl90_write_long(long: FlatLong, out: &mut [u8]) -> WriteAnswer
-    ensures { λ r. ⌜ Wrote (goodLongPassThrough (longFrom long)) (longPassThroughBytes (longFrom long)) (now (out .entry)) r (now (out .exit)) ⌝ }
+    ensures { λ r. ⌜ AnsweredWriting (goodLongPassThrough (longFrom long)) (longPassThroughBytes (longFrom long)) (now (out .entry)) r (now (out .exit)) ⌝ }
 {
     face::write_long(long, out)
 }
