@@ -5,7 +5,7 @@ ghost use Rattle.numbers.specs.Lent.{written};
 ghost use Rattle.fcs.specs.Fcs.{fcs};
 ghost use Rattle.framing.specs.Framing.{framing, output};
 ghost use Rattle.collecting.specs.Step.{held};
-ghost use Rattle.collecting.specs.Stream.{isAnswered, run};
+ghost use Rattle.collecting.specs.Stream.{run};
 ghost use Rattle.status.specs.Heartbeat.{goodHeartbeat, heartbeatBytes};
 ghost use Rattle.status.specs.Initialization.{goodInitialization, initializationBytes};
 ghost use Rattle.altitudes.specs.Height.{goodTerrain, terrainBytes};

@@ -1,6 +1,5 @@
 -- `face::write_report` meets its contract.
 -- Assumes nothing.
-use mathlib.Core.Path.{refl}
 use borrow.Author.Tests.{le-leb, lt-leb}
 use Rattle.numbers.specs.Lent.{written}
 use Rattle.fields.specs.Writing.{writing}

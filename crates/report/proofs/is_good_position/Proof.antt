@@ -1,6 +1,6 @@
 -- `report::is_good_position` meets its contract.
 -- Assumes nothing.
-use mathlib.Core.Path.{_≡_, ap, _∙_}
+use mathlib.Core.Path.{ap, _∙_}
 use mathlib.Core.Bool.{Bool·beq, _&&_}
 use lib.Dec.{eqb}
 use lib.IntN.{pos, negsuc}
