@@ -5,11 +5,11 @@ use mathlib.Core.Bool.{true, false, _&&_}
 use mathlib.Core.List.{List, [], _∷_, _++_, append-assoc}
 use Prim.Native.Nat.{ℕ, suc, _+_, _-_, _*_, _/_, _%_, _<_, _≤_}
 use native.Mathlib.Omega.{arith}
-use lib.Dec.{T, leb, leb→le}
+use lib.Dec.{leb}
 use lib.ListN.{length, getD, take, set, replicate, length-set}
 use lib.Seq.{take-suc-set}
-use borrow.Author.Tests.{lt-ltb, le-ltb}
-use Rattle.numbers.proofs.Every.{left, right}
+use borrow.Author.Tests.{lt-ltb, le-ltb, leb-true}
+use Rattle.numbers.proofs.Every.{both}
 use Rattle.uplink.specs.declared.Frame.{Frame}
 use Rattle.uplink.specs.declared.Added.the-variants.{Done, Refused}
 use Rattle.uplink.specs.Frames.{frameBytes, withValidBit}
@@ -35,9 +35,9 @@ module _ (p : List ℕ) (end kind : ℕ) (xs : List ℕ) where
 
 pub good : (kind n : ℕ) → isGood kind n ≡ true → (kind ≤ 15) × (1 ≤ n) × (n ≤ 422)
 good kind n h =
-    let t : T (isGood kind n) = rw h tt in
-    let u : T (leb kind 15 && leb 1 n) = left (leb kind 15 && leb 1 n) (leb n 422) t in
-    (leb→le kind 15 (left (leb kind 15) (leb 1 n) u), leb→le 1 n (right (leb kind 15) (leb 1 n) u), leb→le n 422 (right (leb kind 15 && leb 1 n) (leb n 422) t))
+    let l = both (leb kind 15 && leb 1 n) (leb n 422) h in
+    let k = both (leb kind 15) (leb 1 n) (l .0) in
+    (leb-true kind 15 (k .0), leb-true 1 n (k .1), leb-true n 422 (l .1))
 
 module _ (p : List ℕ) (kind : ℕ) (xs : List ℕ) where
   pub add-refused : (k : ℕ) → listing p ≡ refused k → Adds p kind xs (Refused k) p
