@@ -16,7 +16,11 @@ ghost use Rattle.report.specs.Bytes.{reportBytes};
 ghost use Rattle.flat.specs.Flat.{uplinkFrom, terrainFrom, reportFrom, geometricFrom, basicFrom, longFrom};
 ghost use Rattle.face.specs.Answers.{ofKind, ofReport, heartbeatAnswer, initializationAnswer, uplinkAnswer, heightAnswer, reportAnswer, geometricAnswer, basicAnswer, longAnswer};
 ghost use Rattle.face.specs.Answers.{AnsweredBy, AnsweredWriting, goodFlatReport};
+ghost use Rattle.uplink.specs.Walk.{listing};
+ghost use Rattle.uplink.specs.Answers.{counted, numbered};
+ghost use Rattle.uplink.specs.Adding.{adding, addedNumber, payloadAfter};
 ghost use Rattle.gdl90.specs.Face.{frameAnswer, phaseNumber, phaseOf, controlOf, answerNumber, messageLength, feedAnswer, ranAnswer};
+ghost use Rattle.gdl90.specs.Payload.{listAnswer, nthRefused, nthAnswer};
 use collecting::Answer;
 use collecting::Control;
 use collecting::Phase;
@@ -40,6 +44,9 @@ use kinds::Initialization;
 use kinds::InitializationRead;
 use kinds::Ownship;
 use kinds::Traffic;
+use uplink::Added;
+use uplink::Found;
+use uplink::Listing;
 
 // `fcs::check_sequence`.
 #[no_mangle]
@@ -328,4 +335,82 @@ pub extern "C" fn gdl90_write_long(long: FlatLong, out: &mut [u8]) -> WriteAnswe
     ensures { λ r. ⌜ AnsweredWriting (goodLongPassThrough (longFrom long)) (longPassThroughBytes (longFrom long)) (now (out .entry)) r (now (out .exit)) ⌝ }
 {
     face::write_long(long, out)
+}
+
+// 01's number; how many information frames a payload has, and where their list ends, counted from the application data's start.
+#[repr(C)]
+pub struct ListAnswer {
+    pub number: u8,
+    pub count: usize,
+    pub end: usize,
+}
+
+// `uplink::list`.
+#[no_mangle]
+pub extern "C" fn gdl90_list(payload: &[u8]) -> ListAnswer
+    ensures { λ r. ⌜ r ≡ listAnswer (counted (listing (now (payload .entry)))) ⌝ }
+{
+    match uplink::list(payload) {
+        Listing::Frames { count, end } => ListAnswer {
+            number: 0,
+            count,
+            end,
+        },
+        Listing::Refused(number) => ListAnswer {
+            number,
+            count: 0,
+            end: 0,
+        },
+    }
+}
+
+// 01's number; a frame's type and reserved bits, where in the payload its data start, and how many bytes they are.
+#[repr(C)]
+pub struct NthAnswer {
+    pub number: u8,
+    pub kind: u8,
+    pub reserved: u8,
+    pub start: usize,
+    pub length: usize,
+}
+
+// `uplink::nth`.
+#[no_mangle]
+pub extern "C" fn gdl90_nth(payload: &[u8], n: usize) -> NthAnswer
+    ensures { λ r. ⌜ r ≡ nthAnswer (numbered (listing (now (payload .entry))) n) ⌝ }
+{
+    match uplink::nth(payload, n) {
+        Found::Frame(f) => NthAnswer {
+            number: 0,
+            kind: f.kind,
+            reserved: f.reserved,
+            start: f.at + 10,
+            length: f.length,
+        },
+        Found::Refused(k) => no_frame(k),
+    }
+}
+
+fn no_frame(number: u8) -> NthAnswer
+    ensures { λ r. ⌜ r ≡ nthRefused number ⌝ }
+{
+    NthAnswer {
+        number,
+        kind: 0,
+        reserved: 0,
+        start: 0,
+        length: 0,
+    }
+}
+
+// `uplink::add`: 01's number, 0 where the frame was added.
+#[no_mangle]
+pub extern "C" fn gdl90_add(payload: &mut [u8], kind: u8, bytes: &[u8]) -> u8
+    ensures answer { λ r. ⌜ r ≡ addedNumber (adding (listing (now (payload .entry))) kind (length (now (bytes .entry)))) ⌝ }
+    ensures payload { λ _. ⌜ now (payload .exit) ≡ payloadAfter (adding (listing (now (payload .entry))) kind (length (now (bytes .entry)))) (now (payload .entry)) kind (now (bytes .entry)) ⌝ }
+{
+    match uplink::add(payload, kind, bytes) {
+        Added::Done => 0,
+        Added::Refused(k) => k,
+    }
 }
