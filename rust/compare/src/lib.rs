@@ -1,6 +1,7 @@
 //! The proved library's C functions, made safe to call.
 
 pub mod messages;
+pub mod uplink;
 
 use reference::collecting::{Answer, ROOM};
 use reference::framing::MESSAGE_MAX;

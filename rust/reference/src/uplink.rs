@@ -34,17 +34,31 @@ pub struct Frame {
 
 /// The payload's frames in order. Checks 7, then 11 and 12 at each header (01).
 pub fn list(payload: &[u8]) -> Result<Vec<Frame>, u8> {
+    let mut frames = Vec::new();
+    walk(payload, |frame| frames.push(frame))?;
+    Ok(frames)
+}
+
+/// How many frames, and where in the application data their list ends.
+pub fn count(payload: &[u8]) -> Result<(usize, usize), u8> {
+    let mut count = 0;
+    let end = walk(payload, |_| count += 1)?;
+    Ok((count, end))
+}
+
+/// Hands out each frame, and answers where the list ends.
+fn walk(payload: &[u8], mut each: impl FnMut(Frame)) -> Result<usize, u8> {
     if payload.len() != PAYLOAD_LENGTH {
         return Err(WRONG_LENGTH);
     }
-    let mut frames = Vec::new();
-    if payload[VALID_AT] & VALID == 0 {
-        return Ok(frames);
+    let mut end = 0;
+    if payload[VALID_AT] & VALID != 0 {
+        while let Some(frame) = frame_at(payload, end)? {
+            end = frame.data.end - HEADER_LENGTH;
+            each(frame);
+        }
     }
-    while let Some(frame) = frame_at(payload, end(&frames))? {
-        frames.push(frame);
-    }
-    Ok(frames)
+    Ok(end)
 }
 
 /// Where in the application data the list ends.
@@ -56,13 +70,20 @@ pub fn end(frames: &[Frame]) -> usize {
 
 /// The n-th frame, from 0. Checks 13 behind those of the list (01).
 pub fn nth(payload: &[u8], n: usize) -> Result<Frame, u8> {
-    list(payload)?.into_iter().nth(n).ok_or(NO_SUCH_FRAME)
+    let (mut number, mut found) = (0, None);
+    walk(payload, |frame| {
+        if number == n {
+            found = Some(frame);
+        }
+        number += 1;
+    })?;
+    found.ok_or(NO_SUCH_FRAME)
 }
 
 /// Adds a frame behind the others. Checks 8, then 9, behind those of the list;
 /// a refusal leaves the payload unchanged (01).
 pub fn add(payload: &mut [u8], frame_type: u8, data: &[u8]) -> Result<(), u8> {
-    let end = end(&list(payload)?);
+    let end = walk(payload, |_| ())?;
     if frame_type > FRAME_TYPE_MAX || !(1..=FRAME_DATA_MAX).contains(&data.len()) {
         return Err(OUT_OF_RANGE);
     }

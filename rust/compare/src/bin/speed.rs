@@ -11,10 +11,12 @@ use compare::messages::{
 use reference::collecting::Answer;
 use reference::framing::{Framed, MESSAGE_MAX};
 use reference::messages::{
-    put, Heartbeat, Message, Report, HEARTBEAT_ID, LENGTHS, NOT_LISTED, TRAFFIC_ID, WRONG_LENGTH,
+    put, Heartbeat, Report, HEARTBEAT_ID, NOT_LISTED, PAYLOAD_LENGTH, TRAFFIC_ID, WRONG_LENGTH,
 };
+use reference::payloads;
 use reference::recording::speed_recording;
 use reference::samples::whole;
+use reference::uplink::Frame;
 use reference::xorshift::Xorshift;
 
 const MESSAGES: usize = 64;
@@ -26,6 +28,8 @@ const COLLECT_ROUNDS: usize = 41;
 const WARM_UP: usize = 10;
 /// The longest frame: every byte escaped, and two flags (01).
 const ROOM: usize = 2 * MESSAGE_MAX + 6;
+/// Data of the frame that is added to each payload.
+const ADDED: [u8; 40] = [0xD5; 40];
 
 fn main() {
     let mut random = Xorshift::new(5);
@@ -36,7 +40,7 @@ fn main() {
     measure_frame("frame_escapes", &escapes);
     measure_heartbeats(&whole_set(&mut random, &[HEARTBEAT_ID]));
     measure_traffic(&whole_set(&mut random, &[TRAFFIC_ID]));
-    measure_any(&whole_set(&mut random, &LENGTHS.map(|(id, _)| id)));
+    measure_payloads(&payload_set(&mut random));
     measure_collect(&speed_recording());
 }
 
@@ -50,6 +54,17 @@ fn message_set(random: &mut Xorshift, eighths: usize) -> Vec<Vec<u8>> {
 fn whole_set(random: &mut Xorshift, ids: &[u8]) -> Vec<Vec<u8>> {
     let ids = ids.iter().cycle().take(MESSAGES);
     ids.map(|&id| whole(random, id)).collect()
+}
+
+/// Payloads with at least one frame, and room for another.
+fn payload_set(random: &mut Xorshift) -> Vec<Vec<u8>> {
+    let payloads = std::iter::repeat_with(|| payloads::whole(random));
+    let good = payloads.filter(|payload| {
+        let mut payload = payload.clone();
+        let (count, _) = reference_list(&payload).expect("a whole payload");
+        count > 0 && reference_add(&mut payload, 0, &ADDED).is_ok()
+    });
+    good.take(MESSAGES).collect()
 }
 
 /// Not inlined, as the proved functions are real calls too.
@@ -92,13 +107,18 @@ fn reference_write_traffic(report: &Report, out: &mut [u8]) -> Result<usize, u8>
 }
 
 #[inline(never)]
-fn rattle_read_any(message: &[u8]) -> Result<Message, u8> {
-    compare::messages::read(message)
+fn reference_list(payload: &[u8]) -> Result<(usize, usize), u8> {
+    reference::uplink::count(payload)
 }
 
 #[inline(never)]
-fn reference_read_any(message: &[u8]) -> Result<Message, u8> {
-    reference::messages::read(message)
+fn reference_nth(payload: &[u8], n: usize) -> Result<Frame, u8> {
+    reference::uplink::nth(payload, n)
+}
+
+#[inline(never)]
+fn reference_add(payload: &mut [u8], frame_type: u8, data: &[u8]) -> Result<(), u8> {
+    reference::uplink::add(payload, frame_type, data)
 }
 
 fn measure_check_sequence(name: &str, messages: &[Vec<u8>]) {
@@ -156,13 +176,35 @@ fn measure_traffic(messages: &[Vec<u8>]) {
     );
 }
 
-/// To the same type on both sides, an uplink's payload copied.
-fn measure_any(messages: &[Vec<u8>]) {
+/// The last frame is asked for; the frame that is added goes into a copy of the
+/// payload, made on both sides.
+fn measure_payloads(payloads: &[Vec<u8>]) {
     measure(
-        "read_any",
-        messages,
-        |message| rattle_read_any(message),
-        |message| reference_read_any(message),
+        "list",
+        payloads,
+        |payload| compare::uplink::list(payload),
+        |payload| reference_list(payload),
+    );
+    let last = |payload: &[u8]| compare::uplink::list(payload).count - 1;
+    let asked: Vec<(&[u8], usize)> = payloads.iter().map(|p| (&p[..], last(p))).collect();
+    measure(
+        "nth_last",
+        &asked,
+        |(payload, n)| compare::uplink::nth(payload, *n),
+        |(payload, n)| reference_nth(payload, *n),
+    );
+    let (mut proved, mut expected) = ([0; PAYLOAD_LENGTH], [0; PAYLOAD_LENGTH]);
+    measure(
+        "add",
+        payloads,
+        |payload| {
+            proved.copy_from_slice(payload);
+            compare::uplink::add(black_box(&mut proved), 0, &ADDED)
+        },
+        |payload| {
+            expected.copy_from_slice(payload);
+            reference_add(black_box(&mut expected), 0, &ADDED)
+        },
     );
 }
 

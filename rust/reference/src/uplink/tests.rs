@@ -202,12 +202,16 @@ fn frames_have_their_numbers() {
         let payload = damaged(&mut random);
         match list(&payload) {
             Ok(frames) => {
+                assert_eq!(count(&payload), Ok((frames.len(), end(&frames))));
                 for (n, frame) in frames.iter().enumerate() {
                     assert_eq!(nth(&payload, n).as_ref(), Ok(frame));
                 }
                 assert_eq!(nth(&payload, frames.len()), Err(NO_SUCH_FRAME));
             }
-            Err(number) => assert_eq!(nth(&payload, random.below(3)), Err(number)),
+            Err(number) => {
+                assert_eq!(count(&payload), Err(number));
+                assert_eq!(nth(&payload, random.below(3)), Err(number));
+            }
         }
     }
 }
