@@ -1,0 +1,135 @@
+// Lists the information frames of uplink payloads, and adds frames to them. A record of the input is a
+// letter, a size, two bytes, high byte first, and that many bytes: P, a payload; M, a message, of which
+// the payload is taken; A, a type and data, which are added to the payload that was given last; L, no
+// bytes: that payload as it is now.
+// Of P, M and L it prints 01's number and, where it is 0, the list's count and end, and of each frame type,
+// reserved bits, length and the first two bytes of the data, in which the product id is (001 §5); then what
+// the number behind the last is answered. Of A it prints 01's number and the check sequence of the payload
+// that is left. The records and the text that is stored beside this program come from rust/reference.
+ghost use Prim.Native.Nat.{_+_, _≤_, _<_};
+ghost use lib.ListN.{length};
+use libc::STDERR_FILENO;
+use libc::STDIN_FILENO;
+use libc::STDOUT_FILENO;
+use uplink::Added;
+use uplink::Found;
+use uplink::Listing;
+
+fn print(text: &[u8]) {
+    io::write_all(STDOUT_FILENO, text);
+}
+
+// A blank, and then the number.
+fn print_number(n: usize) {
+    print(b" ");
+    io::print_decimal(STDOUT_FILENO, n as u64);
+}
+
+fn print_frame(payload: &[u8], n: usize) {
+    match uplink::nth(payload, n) {
+        Found::Frame(f) => {
+            print_number(f.kind as usize);
+            print_number(f.reserved as usize);
+            print_number(f.length);
+            print(b" ");
+            printing::hex_bytes(STDOUT_FILENO, uplink::data(payload, n), 2);
+        }
+        Found::Refused(k) => print_number(k as usize),
+    }
+}
+
+fn print_frames(payload: &[u8], count: usize) {
+    let mut n = 0;
+    while n < count {
+        print_frame(payload, n);
+        n += 1;
+    }
+    print_frame(payload, count);
+}
+
+fn print_list(payload: &[u8]) {
+    print(b"list");
+    match uplink::list(payload) {
+        Listing::Frames { count, end } => {
+            print_number(0);
+            print_number(count);
+            print_number(end);
+            print_frames(payload, count);
+        }
+        Listing::Refused(k) => print_number(k as usize),
+    }
+    print(b"\n");
+}
+
+fn print_added(payload: &mut [u8; 432], kind: u8, bytes: &[u8]) {
+    print(b"add");
+    match uplink::add(payload, kind, bytes) {
+        Added::Done => print_number(0),
+        Added::Refused(k) => print_number(k as usize),
+    }
+    print(b" ");
+    io::print_hex(STDOUT_FILENO, fcs::check_sequence(payload) as u64, 4);
+    print(b"\n");
+}
+
+fn byte_or_zero(bytes: &[u8], i: usize) -> u8 {
+    if i < bytes.len() { bytes[i] } else { 0 }
+}
+
+// Frames are added to the first 432 of these bytes, with zeros behind them where they are fewer.
+fn list_and_keep(bytes: &[u8], payload: &mut [u8; 432]) {
+    print_list(bytes);
+    let mut i = 0;
+    while i < 432 {
+        payload[i] = byte_or_zero(bytes, i);
+        i += 1;
+    }
+}
+
+fn answer(letter: u8, part: &[u8], payload: &mut [u8; 432]) {
+    if letter == b'A' && 1 <= part.len() {
+        print_added(payload, part[0], &part[1..]);
+    } else if letter == b'L' {
+        print_list(payload);
+    } else if letter == b'M' {
+        list_and_keep(passing::payload(part), payload);
+    } else {
+        list_and_keep(part, payload);
+    }
+}
+
+fn number(high: u8, low: u8) -> usize
+    ensures { λ r. ⌜ r < 65536 ⌝ }
+{
+    (high as usize) * 256 + (low as usize)
+}
+
+// Answers where the next record starts: the input's end where this one is cut short.
+fn answer_record(input: &[u8], at: usize, payload: &mut [u8; 432]) -> usize
+    requires { ⌜ at + 3 ≤ length (now input) ⌝ }
+    ensures { λ r. ⌜ (at < r) × (r ≤ length (now (input .entry))) ⌝ }
+{
+    let size = number(input[at + 1], input[at + 2]);
+    let start = at + 3;
+    let end = start + size;
+    if input.len() < end {
+        io::write_all(STDERR_FILENO, b"a record is cut short\n");
+        return input.len();
+    }
+    answer(input[at], &input[start..end], payload);
+    end
+}
+
+fn answer_records(input: &[u8]) {
+    let mut payload = [0u8; 432];
+    let mut at = 0;
+    while 3 <= input.len() - at {
+        at = answer_record(input, at, &mut payload);
+    }
+}
+
+fn main() {
+    let mut input = [0u8; 200000];
+    let n = io::read_full(STDIN_FILENO, &mut input);
+    answer_records(&input[..n]);
+}
