@@ -6,7 +6,7 @@ use Prim.Native.Nat.{ℕ, zero, suc, _+_, _-_, _<_, _≤_}
 use native.Mathlib.Omega.{arith}
 use native.Mathlib.Numerals.{add-one}
 use lib.ListN.{length, getD, take, drop, set, replicate, length-append, length-replicate, length-set, drop-of-length-le}
-use lib.Seq.{take-all, drop-cons, take-suc-set, append-snoc}
+use lib.Seq.{take-all, drop-at, drop-cons, take-suc-set, append-snoc}
 
 abbrev filled : ℕ → List ℕ → List ℕ
 filled k bytes = bytes ++ replicate k 0
@@ -55,3 +55,10 @@ module _ (s₀ bytes : List ℕ) (at : ℕ) where
       pub all-filled : 432 ≤ i → s ≡ take at s₀ ++ whole
       all-filled h =
           sym (rw (take-all i s (omega (arith, f .size)), drop-of-length-le whole {i = i - at} (omega (arith, long)), append-nil)) ∙ f .rest
+
+      -- and zeros from where the bytes end
+      pub zeros-filled : i ≡ at + length bytes → {t : List ℕ} → t ≡ take i s ++ filled (432 - (i + 0)) [] → t ≡ take at s₀ ++ whole
+      zeros-filled end e =
+          let left : i - at ≡ length bytes = omega arith in
+          let here : i + 0 ≡ at + length bytes = omega arith in
+          e ∙ rw here (rw (left, drop-at bytes (replicate (432 - (at + length bytes)) 0) (length bytes) refl) at (f .rest))

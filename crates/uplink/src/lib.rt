@@ -3,7 +3,7 @@ ghost use mathlib.Core.Path.{_≡_};
 ghost use mathlib.Core.Bool.{cond};
 ghost use mathlib.Core.List.{_++_};
 ghost use Prim.Native.Nat.{_+_, _-_, _≤_};
-ghost use lib.ListN.{length, getD, take, replicate};
+ghost use lib.ListN.{length, take, replicate};
 ghost use Rattle.uplink.specs.Frames.{headed, withValidBit};
 ghost use Rattle.uplink.specs.Walk.{listing};
 ghost use Rattle.uplink.specs.Answers.{scanned, counted, numbered, dataOf};
@@ -187,15 +187,14 @@ fn fill_from(payload: &mut [u8], at: usize, bytes: &[u8])
     requires { ⌜ (length (now payload) ≡ 432) × (at + length (now bytes) ≤ 432) ⌝ }
     ensures { λ _. ⌜ now (payload .exit) ≡ take at (now (payload .entry)) ++ (now (bytes .entry) ++ replicate (432 - (at + length (now (bytes .entry)))) 0) ⌝ }
 {
+    let end = at + bytes.len();
     let mut i = at;
-    while i < 432 {
-        payload[i] = byte_or_zero(bytes, i - at);
+    while i < end {
+        payload[i] = bytes[i - at];
         i += 1;
     }
-}
-
-fn byte_or_zero(bytes: &[u8], i: usize) -> u8
-    ensures { λ r. ⌜ r ≡ getD (now (bytes .entry)) i 0 ⌝ }
-{
-    if i < bytes.len() { bytes[i] } else { 0 }
+    while i < 432 {
+        payload[i] = 0;
+        i += 1;
+    }
 }
