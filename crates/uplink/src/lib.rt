@@ -4,6 +4,7 @@ ghost use mathlib.Core.Bool.{cond};
 ghost use mathlib.Core.List.{_++_};
 ghost use Prim.Native.Nat.{_+_, _-_, _≤_};
 ghost use lib.ListN.{length, take, replicate};
+ghost use lib.Seq.{paste};
 ghost use Rattle.uplink.specs.Frames.{headed, withValidBit};
 ghost use Rattle.uplink.specs.Walk.{listing};
 ghost use Rattle.uplink.specs.Answers.{scanned, counted, numbered, dataOf};
@@ -187,14 +188,28 @@ fn fill_from(payload: &mut [u8], at: usize, bytes: &[u8])
     requires { ⌜ (length (now payload) ≡ 432) × (at + length (now bytes) ≤ 432) ⌝ }
     ensures { λ _. ⌜ now (payload .exit) ≡ take at (now (payload .entry)) ++ (now (bytes .entry) ++ replicate (432 - (at + length (now (bytes .entry)))) 0) ⌝ }
 {
-    let end = at + bytes.len();
-    let mut i = at;
-    while i < end {
-        payload[i] = bytes[i - at];
+    copy_to(payload, at, bytes);
+    clear_from(payload, at + bytes.len());
+}
+
+fn copy_to(payload: &mut [u8], at: usize, bytes: &[u8])
+    requires { ⌜ at + length (now bytes) ≤ length (now payload) ⌝ }
+    ensures { λ _. ⌜ now (payload .exit) ≡ paste (now (payload .entry)) at (now (bytes .entry)) (length (now (bytes .entry))) ⌝ }
+{
+    let mut i = 0;
+    while i < bytes.len() {
+        payload[at + i] = bytes[i];
         i += 1;
     }
-    while i < 432 {
-        payload[i] = 0;
+}
+
+fn clear_from(payload: &mut [u8], at: usize)
+    requires { ⌜ at ≤ length (now payload) ⌝ }
+    ensures { λ _. ⌜ now (payload .exit) ≡ take at (now (payload .entry)) ++ replicate (length (now (payload .entry)) - at) 0 ⌝ }
+{
+    let mut i = 0;
+    while i < payload.len() - at {
+        payload[at + i] = 0;
         i += 1;
     }
 }
