@@ -1,0 +1,5 @@
+pub mod Texts
+pub mod Rows
+pub mod Steps
+pub mod Joining
+pub mod Trailing

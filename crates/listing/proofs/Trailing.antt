@@ -1,0 +1,87 @@
+-- The last line has the lead-in and the trail of the input.
+-- Assumes nothing.
+use mathlib.Core.Path.{_≡_, refl, _∙_}
+use mathlib.Core.Bool.{Bool, true, false}
+use mathlib.Core.List.{List, [], _∷_}
+use Prim.Native.Nat.{ℕ, suc, _+_, _-_, _≤_, _<_}
+use native.Mathlib.Omega.{arith}
+use lib.Dec.{eqb}
+use borrow.Author.Tests.{eq-eqb, ne-eqb}
+use Rattle.framing.specs.Stuffing.{flag}
+use Rattle.listing.specs.declared.Lister.{Lister}
+use Rattle.listing.specs.Listing.{State, opening, start, counted, advanced, reached}
+use Rattle.listing.specs.Stretches.{leadIn, trailBy, trail}
+use Rattle.listing.specs.Claims.{BothEnds}
+
+-- after a flag, with n bytes behind it
+record Inside (l : Lister) (n : ℕ) : Type 0 where
+  flagged : l .lead < l .taken
+  behind : l .taken ≡ l .after + n
+
+inside-flag : (s : State) (b : ℕ) → s .lister .lead ≤ s .lister .taken → eqb b flag ≡ true → (Inside (advanced s b .lister) 0) × (advanced s b .lister .lead ≡ s .lister .lead)
+unfolding advanced counted
+inside-flag s b h e = rw e (record { flagged = omega arith; behind = omega arith }, refl)
+
+inside-other : (s : State) (b n : ℕ) → Inside (s .lister) n → eqb b flag ≡ false → (Inside (advanced s b .lister) (suc n)) × (advanced s b .lister .lead ≡ s .lister .lead)
+unfolding advanced counted
+inside-other s b n w e =
+    rw (e, ne-eqb (s .lister .lead) (s .lister .taken) (λ p. omega (arith, w .flagged)))
+    (record { flagged = omega (arith, w .flagged); behind = omega (arith, w .behind) }, refl)
+
+Tail : State → State → ℕ → Type 0
+Tail s s′ n = (s′ .lister .lead ≡ s .lister .lead) × (s′ .lister .taken - s′ .lister .after ≡ n)
+
+inside-by : (s : State) (b : ℕ) (bs : List ℕ) (n : ℕ) → Inside (s .lister) n
+    → ((m : ℕ) → Inside (advanced s b .lister) m → Tail (advanced s b) (reached (advanced s b) bs) (trailBy m bs))
+    → (t : Bool) → eqb b flag ≡ t → Tail s (reached s (b ∷ bs)) (trailBy n (b ∷ bs))
+unfolding Tail trailBy reached
+inside-by s b bs n w ih true e =
+    let f = inside-flag s b (omega (arith, w .flagged)) e in
+    let g = ih 0 (f .0) in
+    rw e (g .0 ∙ f .1, g .1)
+inside-by s b bs n w ih false e =
+    let f = inside-other s b n w e in
+    let g = ih (suc n) (f .0) in
+    rw e (g .0 ∙ f .1, g .1)
+
+inside-tail : (s : State) (bs : List ℕ) (n : ℕ) → Inside (s .lister) n → Tail s (reached s bs) (trailBy n bs)
+unfolding Tail trailBy reached
+inside-tail s [] n w = (refl, omega (arith, w .behind))
+inside-tail s (b ∷ bs) n w = inside-by s b bs n w (λ m. inside-tail (advanced s b) bs m) (eqb b flag) refl
+
+-- before the first flag
+record Outside (l : Lister) : Type 0 where
+  all : l .lead ≡ l .taken
+  none : l .after ≡ l .taken
+
+Whole : State → State → ℕ → ℕ → Type 0
+Whole s s′ l n = (s′ .lister .lead ≡ s .lister .lead + l) × (s′ .lister .taken - s′ .lister .after ≡ n)
+
+outside-other : (s : State) (b : ℕ) → Outside (s .lister) → eqb b flag ≡ false → (Outside (advanced s b .lister)) × (advanced s b .lister .lead ≡ s .lister .lead + 1)
+unfolding advanced counted
+outside-other s b w e = rw (e, eq-eqb (s .lister .lead) (s .lister .taken) (w .all)) (record { all = refl; none = refl }, omega (arith, w .all))
+
+outside-by : (s : State) (b : ℕ) (bs : List ℕ) → Outside (s .lister)
+    → (Outside (advanced s b .lister) → Whole (advanced s b) (reached (advanced s b) bs) (leadIn bs) (trail bs))
+    → (t : Bool) → eqb b flag ≡ t → Whole s (reached s (b ∷ bs)) (leadIn (b ∷ bs)) (trail (b ∷ bs))
+unfolding Whole Tail leadIn trail reached
+outside-by s b bs w ih true e =
+    let f = inside-flag s b (omega (arith, w .all)) e in
+    let g = inside-tail (advanced s b) bs 0 (f .0) in
+    rw e (omega (arith, g .0, f .1), g .1)
+outside-by s b bs w ih false e =
+    let f = outside-other s b w e in
+    let g = ih (f .0) in
+    rw e (omega (arith, g .0, f .1), g .1)
+
+outside-whole : (s : State) (bs : List ℕ) → Outside (s .lister) → Whole s (reached s bs) (leadIn bs) (trail bs)
+unfolding Whole leadIn trail reached
+outside-whole s [] w = (omega arith, omega (arith, w .none))
+outside-whole s (b ∷ bs) w = outside-by s b bs w (outside-whole (advanced s b) bs) (eqb b flag) refl
+
+pub both-ends : BothEnds
+unfolding Whole start opening
+both-ends bs =
+    let w = outside-whole start bs (record { all = refl; none = refl }) in
+    let l : reached start bs .lister .lead ≡ leadIn bs = omega (arith, w .0) in
+    rw (l, w .1)

@@ -1,0 +1,296 @@
+// The listing of a byte stream as text, a stretch of input at a time (01 'The lister's output').
+ghost use mathlib.Core.Path.{_≡_};
+ghost use mathlib.Core.Bool.{cond};
+ghost use mathlib.Core.List.{_++_, _∷_, []};
+ghost use Prim.Native.Nat.{_+_, _≤_, _<_};
+ghost use lib.ListN.{length, take};
+ghost use Rattle.numbers.specs.Lent.{Stored};
+ghost use Rattle.collecting.specs.Stream.{reply};
+ghost use Rattle.collecting.specs.Claims.{Ranged};
+ghost use Rattle.messages.specs.Message.{readMessage, number};
+ghost use Rattle.listing.specs.Line.{decimal, field, shownAs};
+ghost use Rattle.listing.specs.Listing.{limit, longest, state, answerLine, replyLine, textOf, advanced, header, ending, Sane, Processes};
+ghost use Rattle.listing.specs.Listing.{opening as Listing·opening, start as Listing·start, steady as Listing·steady, counted as Listing·counted, holds as Listing·holds, settled as Listing·settled};
+use collecting::Answer;
+use collecting::Control;
+use kinds::Reading;
+
+// As many bytes are listed at most.
+pub const LIMIT: u64 = 4294967295;
+
+// A line has at most so many bytes.
+pub const LONGEST: usize = 55;
+
+// What is kept from one stretch to the next, beside collecting's room.
+pub struct Lister {
+    pub control: Control,
+    // the bytes so far
+    pub taken: u64,
+    // the lines so far
+    pub lines: u64,
+    // the bytes before the first flag; all, as long as there is none
+    pub lead: u64,
+    // the offset of the first byte after the last flag; of the next byte, as long as there is none
+    pub after: u64,
+}
+
+pub struct Processed {
+    pub lister: Lister,
+    // how many bytes were taken
+    pub taken: usize,
+    // how many bytes of text they gave
+    pub written: usize,
+}
+
+struct Advanced {
+    lister: Lister,
+    end: usize,
+}
+
+// The header line.
+pub fn heading() -> [u8; 16]
+    ensures { λ r. ⌜ r ≡ header ⌝ }
+{
+    [
+        b'n',
+        b' ',
+        b'a',
+        b't',
+        b' ',
+        b'a',
+        b'n',
+        b's',
+        b' ',
+        b'i',
+        b'd',
+        b' ',
+        b'l',
+        b'e',
+        b'n',
+        b'\n',
+    ]
+}
+
+// Before the first byte.
+pub fn start(room: &mut [u8; 438]) -> Lister
+    ensures { λ r. ⌜ state r (now (room .exit)) ≡ Listing·start ⌝ }
+{
+    *room = [0u8; 438];
+    opening()
+}
+
+fn opening() -> Lister
+    ensures { λ r. ⌜ r ≡ Listing·opening ⌝ }
+{
+    let control = Control::fresh();
+    Lister {
+        control,
+        taken: 0,
+        lines: 0,
+        lead: 0,
+        after: 0,
+    }
+}
+
+// Takes bytes, and writes their lines to the front of out, until there are no more bytes, or out may not
+// hold another line, or the limit is reached. The room is the state's.
+pub fn process(lister: Lister, room: &mut [u8; 438], bytes: &[u8], out: &mut [u8]) -> Processed
+    ensures { λ r. ⌜ Processes (Listing·settled (state lister (now (room .entry)))) (now (bytes .entry)) (now (out .entry)) r (now (room .exit)) (now (out .exit)) ⌝ }
+{
+    let mut l = settled(lister, room);
+    let mut message = [0u8; 436];
+    let mut i = 0;
+    let mut at = 0;
+    while i < bytes.len() {
+        if LIMIT <= l.taken {
+            return Processed {
+                lister: l,
+                taken: i,
+                written: at,
+            };
+        }
+        if out.len() - at < LONGEST {
+            return Processed {
+                lister: l,
+                taken: i,
+                written: at,
+            };
+        }
+        let a = advance(l, room, &mut message, bytes[i], out, at);
+        l = a.lister;
+        at = a.end;
+        i += 1;
+    }
+    Processed {
+        lister: l,
+        taken: i,
+        written: at,
+    }
+}
+
+// Writes the last line to the front of out, and answers its length.
+pub fn finish(lister: Lister, out: &mut [u8; 26]) -> usize
+    ensures { λ r. ⌜ Stored (now (out .entry)) 0 (ending (Listing·steady lister)) r (now (out .exit)) ⌝ }
+    ensures { λ r. ⌜ r ≤ 26 ⌝ }
+{
+    let l = steady(lister);
+    let lead = l.lead;
+    let trail = l.taken - l.after;
+    out[0] = b'e';
+    out[1] = b'n';
+    out[2] = b'd';
+    out[3] = b' ';
+    let p = put_field(out, 4, true, lead, b' ');
+    put_field(out, p, true, trail, b'\n')
+}
+
+// A lister that no bytes within the limit lead to is taken as that at the start.
+fn steady(lister: Lister) -> Lister
+    ensures { λ r. ⌜ (r ≡ Listing·steady lister) × Sane r ⌝ }
+{
+    if holds(lister) {
+        return lister;
+    }
+    opening()
+}
+
+// The same, with collecting's room.
+fn settled(lister: Lister, room: &mut [u8; 438]) -> Lister
+    ensures { λ r. ⌜ (state r (now (room .exit)) ≡ Listing·settled (state lister (now (room .entry)))) × Sane r ⌝ }
+{
+    if holds(lister) {
+        return lister;
+    }
+    start(room)
+}
+
+fn holds(l: Lister) -> bool
+    ensures { λ r. ⌜ r ≡ Listing·holds l ⌝ }
+{
+    (l.taken <= LIMIT) & ((l.lines <= l.taken) & ((l.lead <= l.taken) & (l.after <= l.taken)))
+}
+
+// Takes a byte, and writes its line from `at` on.
+fn advance(
+    l: Lister,
+    room: &mut [u8; 438],
+    message: &mut [u8; 436],
+    byte: u8,
+    out: &mut [u8],
+    at: usize,
+) -> Advanced
+    requires { ⌜ Sane l × (l .taken < limit) × (at + longest ≤ length (now out)) ⌝ }
+    ensures { λ r. ⌜ state (r .lister) (now (room .exit)) ≡ advanced (state l (now (room .entry))) byte ⌝ }
+    ensures { λ r. ⌜ Stored (now (out .entry)) at (textOf (state l (now (room .entry))) byte) (r .end) (now (out .exit)) ⌝ }
+    ensures { λ r. ⌜ r .end ≤ at + longest ⌝ }
+{
+    let control = l.control;
+    let stepped = collecting::step(control, room, message, byte);
+    let control = stepped.control;
+    let answer = stepped.answer;
+    let lister = counted(l, byte, control, collecting::is_answered(answer));
+    let end = put_reply(out, at, l, answer, message);
+    Advanced { lister, end }
+}
+
+// The lister after a byte, with collecting's control after it and whether it was answered.
+fn counted(l: Lister, byte: u8, control: Control, answered: bool) -> Lister
+    requires { ⌜ Sane l × (l .taken < limit) ⌝ }
+    ensures { λ r. ⌜ r ≡ Listing·counted l byte control answered ⌝ }
+{
+    let taken = l.taken + 1;
+    Lister {
+        control,
+        taken,
+        lines: pick(answered, l.lines + 1, l.lines),
+        lead: pick(byte == 0x7E, l.lead, pick(l.lead == l.taken, taken, l.lead)),
+        after: pick(byte == 0x7E, taken, pick(l.lead == l.taken, taken, l.after)),
+    }
+}
+
+fn pick(test: bool, yes: u64, no: u64) -> u64
+    ensures { λ r. ⌜ r ≡ cond test yes no ⌝ }
+{
+    if test { yes } else { no }
+}
+
+// Writes the line of an answer, where there is one.
+fn put_reply(out: &mut [u8], at: usize, l: Lister, answer: Answer, message: &[u8; 436]) -> usize
+    requires { ⌜ Sane l × (l .taken < limit) × Ranged answer × (at + longest ≤ length (now out)) ⌝ }
+    ensures { λ r. ⌜ Stored (now (out .entry)) at (replyLine l (reply answer (now (message .entry)))) r (now (out .exit)) ⌝ }
+    ensures { λ r. ⌜ r ≤ at + longest ⌝ }
+{
+    match answer {
+        Answer::None => at,
+        Answer::Accepted(k) => put_line(out, at, l, read_number(message, k), true, message[0], k),
+        Answer::Refused(n) => put_line(out, at, l, n, false, 0, 0),
+    }
+}
+
+// What reading the first k bytes answers.
+fn read_number(message: &[u8], k: usize) -> u8
+    requires { ⌜ k ≤ length (now message) ⌝ }
+    ensures { λ r. ⌜ r ≡ number (readMessage (take k (now (message .entry)))) ⌝ }
+{
+    number_of(messages::read(&message[..k]))
+}
+
+fn number_of(reading: Reading) -> u8
+    ensures { λ r. ⌜ r ≡ number reading ⌝ }
+{
+    match reading {
+        Reading::Message(_) => 0,
+        Reading::Refused(n) => n,
+    }
+}
+
+// Writes a line, field by field.
+fn put_line(
+    out: &mut [u8],
+    at: usize,
+    l: Lister,
+    answer: u8,
+    shown: bool,
+    id: u8,
+    len: usize,
+) -> usize
+    requires { ⌜ Sane l × (l .taken < limit) × (len ≤ 436) × (at + longest ≤ length (now out)) ⌝ }
+    ensures { λ r. ⌜ Stored (now (out .entry)) at (answerLine l answer (shownAs shown id) (shownAs shown len)) r (now (out .exit)) ⌝ }
+    ensures { λ r. ⌜ r ≤ at + longest ⌝ }
+{
+    let p = put_field(out, at, true, l.lines + 1, b' ');
+    let q = put_field(out, p, true, l.after, b' ');
+    let r = put_field(out, q, true, answer as u64, b' ');
+    let s = put_field(out, r, shown, id as u64, b' ');
+    put_field(out, s, shown, len as u64, b'\n')
+}
+
+// Writes n in decimal, or a dash in its place, and a byte behind it.
+fn put_field(out: &mut [u8], at: usize, shown: bool, n: u64, behind: u8) -> usize
+    requires { ⌜ (n < 10000000000) × (at + 11 ≤ length (now out)) ⌝ }
+    ensures { λ r. ⌜ Stored (now (out .entry)) at (field (shownAs shown n) ++ (behind ∷ [])) r (now (out .exit)) ⌝ }
+    ensures { λ r. ⌜ r ≤ at + 11 ⌝ }
+{
+    if shown {
+        let end = put_decimal(out, at, n);
+        out[end] = behind;
+        return end + 1;
+    }
+    out[at] = b'-';
+    out[at + 1] = behind;
+    at + 2
+}
+
+// Writes n in decimal from `at` on, and answers the place behind it.
+fn put_decimal(out: &mut [u8], at: usize, n: u64) -> usize
+    requires { ⌜ at + length (decimal n) ≤ length (now out) ⌝ }
+    ensures { λ r. ⌜ Stored (now (out .entry)) at (decimal n) r (now (out .exit)) ⌝ }
+{
+    if n < 10 {
+        out[at] = b'0' + n as u8;
+        return at + 1;
+    }
+    let end = put_decimal(out, at, n / 10);
+    out[end] = b'0' + (n % 10) as u8;
+    end + 1
+}
