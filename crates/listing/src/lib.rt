@@ -131,7 +131,7 @@ pub fn process(lister: Lister, room: &mut [u8; 438], bytes: &[u8], out: &mut [u8
 // Writes the last line to the front of out, and answers its length.
 pub fn finish(lister: Lister, out: &mut [u8; 26]) -> usize
     ensures { λ r. ⌜ Stored (now (out .entry)) 0 (ending (Listing·steady lister)) r (now (out .exit)) ⌝ }
-    ensures { λ r. ⌜ r ≤ 26 ⌝ }
+    ensures { λ r. ⌜ r ≤ length (now (out .exit)) ⌝ }
 {
     let l = steady(lister);
     let lead = l.lead;

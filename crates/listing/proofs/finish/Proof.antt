@@ -40,7 +40,7 @@ returns c =
     let g = c .before .before .before .before .before .steady in
     let out = c .before .before .before .before .before .before .args .out .now in
     let line : Stored out 0 (ending (g .result)) (q .result) (q .last .0) = ending-stored out (g .result .lead) (g .result .taken - g .result .after) (p .ensures .0) (q .ensures .0) in
-    (rw (g .ensures .0) at line, omega (arith, p .ensures .1, q .ensures .1))
+    (rw (g .ensures .0) at line, omega (arith, p .ensures .1, q .ensures .1, p .kept .0, q .kept .0))
 
 pub finish-spec : {M : Type 1} → statement M
 finish-spec =
