@@ -1,0 +1,237 @@
+/* GDL 90 bytes: frames, collecting, messages, uplink payloads. Link with libgdl90.a (`rt staticlib gdl90`).
+
+   Every function takes every input, ends, keeps no pointer, and touches nothing but the memory it is given. A pointer and a length
+   stand for bytes; the pointer is never null, also where the length is 0, and memory to be written overlaps no other argument.
+
+   `number` in an answer is that of the scope paper's table:
+     0  done                        5  check sequence             10  message not of 1 to 436 bytes
+     1  bad escape                  6  id not in the list         11  a frame runs past the application data
+     2  flag behind an escape       7  length                     12  a frame's length over 422
+     3  more than 438 bytes         8  a field outside its range  13  no frame with that number
+     4  fewer than 3 bytes          9  output too short
+   With any number but 0 every other field of the answer is 0, and memory lent for output is as it was. */
+#ifndef GDL90_H
+#define GDL90_H
+
+#include <stdbool.h>
+#include <stddef.h>
+#include <stdint.h>
+
+#ifdef __cplusplus
+extern "C" {
+#endif
+
+/* ---- frames */
+
+/* The frame check sequence of a message. */
+uint16_t gdl90_check_sequence(const uint8_t *message, size_t message_len);
+
+struct gdl90_frame_answer {
+    uint8_t number; /* 0, 9, 10 */
+    size_t length;  /* bytes written */
+};
+
+/* A message of 1 to 436 bytes as a frame: flag, message and check sequence with escapes, flag. 878 bytes are enough for any. */
+struct gdl90_frame_answer gdl90_frame(const uint8_t *message, size_t message_len, uint8_t *out, size_t out_len);
+
+/* ---- collecting frames from a stream. Keep the control, the room and the message from one call to the next. */
+
+struct gdl90_feed_control { /* all zero: the fresh state; the room is then zero too */
+    size_t count;
+    uint8_t phase;
+};
+
+struct gdl90_feed_answer {
+    struct gdl90_feed_control control; /* to be given to the next call */
+    size_t taken;                      /* bytes taken: the next call goes on behind them */
+    bool answered;                     /* the last of them closed a frame */
+    uint8_t number;                    /* 0 to 5, where answered */
+    size_t length;                     /* of the message, where the number is 0 */
+};
+
+/* Takes bytes until one closes a frame or there are no more. An accepted message stands in `message`, with zeros behind it. */
+struct gdl90_feed_answer gdl90_feed(struct gdl90_feed_control control, uint8_t room[438], uint8_t message[436],
+                                    const uint8_t *bytes, size_t bytes_len);
+
+/* ---- messages */
+
+/* The first byte of a message of each kind. */
+enum gdl90_id {
+    GDL90_HEARTBEAT = 0,
+    GDL90_INITIALIZATION = 2,
+    GDL90_UPLINK = 7,
+    GDL90_HEIGHT = 9,
+    GDL90_OWNSHIP = 10,
+    GDL90_GEOMETRIC = 11,
+    GDL90_TRAFFIC = 20,
+    GDL90_BASIC = 30,
+    GDL90_LONG = 31
+};
+
+/* A mark says what the field behind it is. With a mark the field is 0 when read, and is not looked at when written. A field has only
+   the marks named beside it; any other number is refused with 8 when written. */
+enum gdl90_mark {
+    GDL90_NUMBER = 0, /* the field is a number */
+    GDL90_NONE = 1,
+    GDL90_OVER = 2, /* of a climb: more than 509 steps up */
+    GDL90_BELOW = 3 /* of a climb: more than 509 steps down */
+};
+
+struct gdl90_heartbeat {
+    uint8_t status1;
+    uint8_t status2; /* bits 6 to 0 */
+    uint32_t time;   /* seconds since 0000Z, 0 to 86,399 */
+    uint8_t uplinks; /* 0 to 31 */
+    uint8_t reserved; /* 0 or 1 */
+    uint16_t basic_and_long; /* 0 to 1,023 */
+};
+
+struct gdl90_initialization {
+    uint8_t first;
+    uint8_t second;
+};
+
+struct gdl90_uplink {
+    uint8_t reception_mark; /* none */
+    uint32_t reception;     /* 0 to 12,499,999 steps of 80 ns */
+};
+
+struct gdl90_height {
+    uint8_t height_mark; /* none */
+    int16_t height;      /* feet above terrain */
+};
+
+struct gdl90_report { /* an ownship's or of traffic */
+    uint8_t alert;        /* 0 to 15 */
+    uint8_t address_type; /* 0 to 15 */
+    uint32_t address;     /* 24 bits */
+    uint8_t position_mark; /* none */
+    int32_t latitude;      /* steps of 180 / 2^23 degrees, north positive, -4,194,304 to 4,194,304 */
+    int32_t longitude;     /* likewise, east positive, -8,388,608 to 8,388,607 */
+    uint8_t altitude_mark; /* none */
+    uint16_t altitude;     /* steps of 25 feet from -1,000 feet on, 0 to 4,094 */
+    uint8_t track_kind;    /* 0 not valid, 1 true track, 2 magnetic heading, 3 true heading */
+    bool extrapolated;
+    bool airborne;
+    uint8_t integrity; /* 0 to 11 */
+    uint8_t accuracy;  /* 0 to 11 */
+    uint8_t speed_mark; /* none, over */
+    uint16_t speed;     /* knots, 0 to 4,093 */
+    uint8_t climb_mark; /* none, over, below */
+    int32_t climb;      /* steps of 64 feet per minute, -509 to 509 */
+    uint8_t track;      /* steps of 360 / 256 degrees */
+    uint8_t emitter;
+    uint8_t call_sign[8];
+    uint8_t priority; /* 0 to 15 */
+    uint8_t spare;    /* 0 to 15 */
+};
+
+struct gdl90_geometric {
+    int16_t altitude; /* steps of 5 feet */
+    bool warning;
+    uint8_t merit_mark; /* none, over */
+    uint16_t merit;     /* metres, 0 to 32,766 */
+};
+
+struct gdl90_basic {
+    uint8_t reception_mark; /* none */
+    uint32_t reception;     /* as an uplink's */
+    uint8_t payload[18];
+};
+
+struct gdl90_long {
+    uint8_t reception_mark; /* none */
+    uint32_t reception;     /* as an uplink's */
+    uint8_t payload[34];
+};
+
+struct gdl90_heartbeat_read {
+    uint8_t number;
+    struct gdl90_heartbeat heartbeat;
+};
+struct gdl90_initialization_read {
+    uint8_t number;
+    struct gdl90_initialization initialization;
+};
+struct gdl90_uplink_read {
+    uint8_t number;
+    struct gdl90_uplink uplink;
+};
+struct gdl90_height_read {
+    uint8_t number;
+    struct gdl90_height height;
+};
+struct gdl90_report_read {
+    uint8_t number;
+    struct gdl90_report report;
+};
+struct gdl90_geometric_read {
+    uint8_t number;
+    struct gdl90_geometric geometric;
+};
+struct gdl90_basic_read {
+    uint8_t number;
+    struct gdl90_basic basic;
+};
+struct gdl90_long_read {
+    uint8_t number;
+    struct gdl90_long pass_through;
+};
+
+/* A message of one kind: 6 if it is empty or its first byte is another kind's id, then 7, then 8. The payload of an uplink is the
+   432 bytes from message + 4 on. */
+struct gdl90_heartbeat_read gdl90_read_heartbeat(const uint8_t *message, size_t message_len);
+struct gdl90_initialization_read gdl90_read_initialization(const uint8_t *message, size_t message_len);
+struct gdl90_uplink_read gdl90_read_uplink(const uint8_t *message, size_t message_len);
+struct gdl90_height_read gdl90_read_height(const uint8_t *message, size_t message_len);
+struct gdl90_report_read gdl90_read_report(const uint8_t *message, size_t message_len); /* an ownship's or of traffic */
+struct gdl90_geometric_read gdl90_read_geometric(const uint8_t *message, size_t message_len);
+struct gdl90_basic_read gdl90_read_basic(const uint8_t *message, size_t message_len);
+struct gdl90_long_read gdl90_read_long(const uint8_t *message, size_t message_len);
+
+struct gdl90_write_answer {
+    uint8_t number; /* 0, 7 for an uplink's payload not of 432 bytes, 8, 9 */
+    size_t length;  /* bytes written */
+};
+
+/* The message of a value. 436 bytes are enough for any. */
+struct gdl90_write_answer gdl90_write_heartbeat(struct gdl90_heartbeat heartbeat, uint8_t *out, size_t out_len);
+struct gdl90_write_answer gdl90_write_initialization(struct gdl90_initialization initialization, uint8_t *out, size_t out_len);
+struct gdl90_write_answer gdl90_write_uplink(struct gdl90_uplink uplink, const uint8_t *payload, size_t payload_len, uint8_t *out,
+                                             size_t out_len);
+struct gdl90_write_answer gdl90_write_height(struct gdl90_height height, uint8_t *out, size_t out_len);
+struct gdl90_write_answer gdl90_write_ownship(struct gdl90_report report, uint8_t *out, size_t out_len);
+struct gdl90_write_answer gdl90_write_geometric(struct gdl90_geometric geometric, uint8_t *out, size_t out_len);
+struct gdl90_write_answer gdl90_write_traffic(struct gdl90_report report, uint8_t *out, size_t out_len);
+struct gdl90_write_answer gdl90_write_basic(struct gdl90_basic basic, uint8_t *out, size_t out_len);
+struct gdl90_write_answer gdl90_write_long(struct gdl90_long pass_through, uint8_t *out, size_t out_len);
+
+/* ---- the information frames of an uplink payload, 432 bytes */
+
+struct gdl90_list_answer {
+    uint8_t number; /* 0, 7, 11, 12 */
+    size_t count;
+    size_t end; /* the byte of the application data, which are payload + 8, at which the list ends */
+};
+
+struct gdl90_nth_answer {
+    uint8_t number; /* 0, 7, 11, 12, 13 */
+    uint8_t kind;   /* the frame's type */
+    uint8_t reserved;
+    size_t start; /* the frame's data are payload + start */
+    size_t length;
+};
+
+struct gdl90_list_answer gdl90_list(const uint8_t *payload, size_t payload_len);
+
+/* Frame n, numbered from 0. */
+struct gdl90_nth_answer gdl90_nth(const uint8_t *payload, size_t payload_len, size_t n);
+
+/* One frame more at the list's end, of a type up to 15 and 1 to 422 bytes of data: 0, 7, 11, 12, 8, 9. */
+uint8_t gdl90_add(uint8_t *payload, size_t payload_len, uint8_t kind, const uint8_t *data, size_t data_len);
+
+#ifdef __cplusplus
+}
+#endif
+
+#endif
