@@ -5,11 +5,12 @@
 
    `number` in an answer is that of the scope paper's table:
      0  done                        5  check sequence             10  message not of 1 to 436 bytes
-     1  bad escape                  6  id not in the list         11  a frame runs past the application data
-     2  flag behind an escape       7  length                     12  a frame's length over 422
+     1  bad escape                  6  empty, or another id       11  a frame runs past the application data
+     2  escape before the flag      7  length                     12  a frame's length over 422
      3  more than 438 bytes         8  a field outside its range  13  no frame with that number
-     4  fewer than 3 bytes          9  output too short
-   With any number but 0 every other field of the answer is 0, and memory lent for output is as it was. */
+     4  1 or 2 bytes                9  output too short
+   With any number but 0 every other field of the answer is 0, and memory lent for output is as it was. gdl90_feed alone goes on: its
+   answer always has the state and the bytes taken, and the room is part of the state. */
 #ifndef GDL90_H
 #define GDL90_H
 
