@@ -4,8 +4,6 @@
 
 #include <stdio.h>
 
-static double degrees(int32_t steps) { return steps * 180.0 / 8388608.0; }
-
 static void print_report(const char *whose, struct gdl90_report_read read)
 {
     struct gdl90_report r = read.report;
@@ -15,10 +13,13 @@ static void print_report(const char *whose, struct gdl90_report_read read)
         return;
     }
     printf("%s %06lX '%.8s'", whose, (unsigned long)r.address, (const char *)r.call_sign);
-    if (r.position_mark == GDL90_NUMBER)
-        printf(" at %.5f %.5f", degrees(r.latitude), degrees(r.longitude));
+    if (r.position_mark == GDL90_NUMBER) {
+        struct gdl90_degrees_answer at = gdl90_degrees(r.latitude, r.longitude);
+
+        printf(" at %.5f %.5f", at.latitude, at.longitude);
+    }
     if (r.altitude_mark == GDL90_NUMBER)
-        printf(" %ld ft", r.altitude * 25L - 1000);
+        printf(" %ld ft", (long)gdl90_pressure_feet(r.altitude));
     if (r.climb_mark == GDL90_NUMBER)
         printf(" %+ld ft/min", r.climb * 64L);
     printf("\n");

@@ -1,4 +1,4 @@
-/* GDL 90 bytes: frames, collecting, messages, uplink payloads. Link with libgdl90.a (`rt staticlib gdl90`).
+/* GDL 90 bytes: frames, collecting, messages, uplink payloads, units. Link with libgdl90.a (`rt staticlib gdl90`).
 
    Every function takes every input, ends, keeps no pointer, and touches nothing but the memory it is given. A pointer and a length
    stand for bytes; the pointer is never null, also where the length is 0, and memory to be written overlaps no other argument.
@@ -230,6 +230,23 @@ struct gdl90_nth_answer gdl90_nth(const uint8_t *payload, size_t payload_len, si
 
 /* One frame more at the list's end, of a type up to 15 and 1 to 422 bytes of data: 0, 7, 11, 12, 8, 9. */
 uint8_t gdl90_add(uint8_t *payload, size_t payload_len, uint8_t kind, const uint8_t *data, size_t data_len);
+
+/* ---- units */
+
+/* Feet, each from its own unit, for every value. A field with a mark is no number of steps. */
+int32_t gdl90_pressure_feet(uint16_t steps);  /* of a report's altitude, 25 feet a step from -1,000 feet on */
+int32_t gdl90_geometric_feet(int16_t steps);  /* of a geometric altitude, 5 feet a step */
+int32_t gdl90_terrain_feet(int16_t feet);     /* of a height above terrain */
+
+struct gdl90_degrees_answer {
+    uint8_t number; /* 0, 8 */
+    double latitude;
+    double longitude;
+};
+
+/* A report's position in degrees, exactly: 180 / 2^23 degrees a step. 8 for a number of steps outside -8,388,608 to 8,388,607; the
+   range of a latitude is not checked here. */
+struct gdl90_degrees_answer gdl90_degrees(int32_t latitude, int32_t longitude);
 
 #ifdef __cplusplus
 }

@@ -1,2 +1,3 @@
+pub mod Degrees
 pub mod Face
 pub mod Payload

@@ -20,7 +20,10 @@ ghost use Rattle.uplink.specs.Walk.{listing};
 ghost use Rattle.uplink.specs.Answers.{counted, numbered};
 ghost use Rattle.uplink.specs.Adding.{adding, addedNumber, payloadAfter};
 ghost use Rattle.gdl90.specs.Face.{frameAnswer, phaseNumber, phaseOf, controlOf, answerNumber, messageLength, feedAnswer, ranAnswer};
+ghost use Rattle.units.specs.Degrees.{inDegrees};
+ghost use Rattle.units.specs.Feet.{pressureFeet, geometricFeet, terrainFeet};
 ghost use Rattle.gdl90.specs.Payload.{listAnswer, nthRefused, nthAnswer};
+ghost use Rattle.gdl90.specs.Degrees.{degreesAnswer};
 use collecting::Answer;
 use collecting::Control;
 use collecting::Phase;
@@ -44,6 +47,10 @@ use kinds::Initialization;
 use kinds::InitializationRead;
 use kinds::Ownship;
 use kinds::Traffic;
+use units::GeometricSteps;
+use units::InDegrees;
+use units::PressureSteps;
+use units::TerrainFeet;
 use uplink::Added;
 use uplink::Found;
 use uplink::Listing;
@@ -412,5 +419,54 @@ pub extern "C" fn gdl90_add(payload: &mut [u8], kind: u8, bytes: &[u8]) -> u8
     match uplink::add(payload, kind, bytes) {
         Added::Done => 0,
         Added::Refused(k) => k,
+    }
+}
+
+// Feet, from each of the three units, for every value of its width.
+#[no_mangle]
+pub extern "C" fn gdl90_pressure_feet(steps: u16) -> i32
+    ensures { λ r. ⌜ r ≡ pressureFeet (record { steps = steps }) ⌝ }
+{
+    PressureSteps { steps }.feet()
+}
+
+#[no_mangle]
+pub extern "C" fn gdl90_geometric_feet(steps: i16) -> i32
+    ensures { λ r. ⌜ r ≡ geometricFeet (record { steps = steps }) ⌝ }
+{
+    GeometricSteps { steps }.feet()
+}
+
+#[no_mangle]
+pub extern "C" fn gdl90_terrain_feet(feet: i16) -> i32
+    ensures { λ r. ⌜ r ≡ terrainFeet (record { feet = feet }) ⌝ }
+{
+    TerrainFeet { feet }.feet()
+}
+
+// 01's number; two step numbers in degrees, 0 with a refusal.
+#[repr(C)]
+pub struct DegreesAnswer {
+    pub number: u8,
+    pub latitude: f64,
+    pub longitude: f64,
+}
+
+// `units::in_degrees`.
+#[no_mangle]
+pub extern "C" fn gdl90_degrees(latitude: i32, longitude: i32) -> DegreesAnswer
+    ensures { λ r. ⌜ r ≡ degreesAnswer (inDegrees latitude longitude) ⌝ }
+{
+    match units::in_degrees(latitude, longitude) {
+        InDegrees::At(d) => DegreesAnswer {
+            number: 0,
+            latitude: d.latitude,
+            longitude: d.longitude,
+        },
+        InDegrees::Refused(number) => DegreesAnswer {
+            number,
+            latitude: 0.0,
+            longitude: 0.0,
+        },
     }
 }
