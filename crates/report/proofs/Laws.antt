@@ -1,20 +1,18 @@
 -- The two round trips of a report.
 -- Assumes nothing.
-use mathlib.Core.Path.{_≡_, refl, ap, _∙_}
+use mathlib.Core.Path.{_≡_, ap, _∙_}
 use mathlib.Core.List.{List}
 use Prim.Native.Nat.{ℕ, _<_}
 use native.Mathlib.Omega.{arith}
 use lib.Dec.{eqb}
 use borrow.Author.Tests.{ltb-true}
-use Rattle.numbers.specs.Signed.{signedIn, fieldOf}
 use Rattle.numbers.proofs.Every.{both}
 use Rattle.flat.specs.Flat.{trackFrom}
 use Rattle.flat.proofs.Laws.{tracks}
 use Rattle.report.specs.Marks.{positionOf, altitudeOf, speedOf, climbOf}
 use Rattle.report.specs.Bytes.{codesIn, codesOf, reportIn, packed, reportBytes}
-use Rattle.fields.specs.Reading.{reading}
-use Rattle.report.specs.Reading.{goodReport, goodPosition, carriedBy}
-use Rattle.report.specs.Claims.{ReportWrittenRead, ReportReadWritten, ReportExamples}
+use Rattle.report.specs.Reading.{goodReport}
+use Rattle.report.specs.Claims.{ReportWrittenRead, ReportReadWritten}
 use Rattle.report.proofs.Marked.{altitude-code, altitude-back, speed-code, speed-back, climb-code, climb-back, kind-code, kind-fits, bit-code, bit-back, position-code, position-back}
 use Rattle.report.proofs.Packing.{Fit, from-three, upper, lower, codes-back, fit-in, bytes-back}
 
@@ -90,7 +88,3 @@ written-read id r g =
       priority = upper (r .priority) (r .spare) (ltb-true _ _ (priority .1)) i;
       spare = lower (r .priority) (r .spare) (ltb-true _ _ (spare .1)) i;
     }
-
-pub examples-hold : ReportExamples
-unfolding reading carriedBy reportIn goodReport goodPosition positionOf altitudeOf trackFrom speedOf climbOf signedIn fieldOf
-examples-hold = (refl, refl, refl, refl, refl, refl)

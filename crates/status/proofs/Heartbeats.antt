@@ -1,6 +1,6 @@
 -- Laws of the heartbeat.
 -- Assumes nothing.
-use mathlib.Core.Path.{_≡_, refl, sym, ap, _∙_}
+use mathlib.Core.Path.{_≡_, sym, ap, _∙_}
 use mathlib.Core.Bool.{true}
 use Prim.Native.Nat.{ℕ, suc, _+_, _*_, _/_, _%_, _<_}
 use mathlib.Core.List.{_∷_}
@@ -12,8 +12,7 @@ use Rattle.numbers.proofs.Bytes.{byte-at, spread, upTo}
 use Rattle.numbers.proofs.Every.{both}
 use Rattle.kinds.specs.declared.Heartbeat.{Heartbeat}
 use Rattle.status.specs.Heartbeat.{lastSecond, timeOf, countOf, heartbeatIn, goodHeartbeat, HeartbeatBits}
-use Rattle.fields.specs.Reading.{reading}
-use Rattle.status.specs.Claims.{HeartbeatWrittenRead, HeartbeatReadWritten, Values}
+use Rattle.status.specs.Claims.{HeartbeatWrittenRead, HeartbeatReadWritten}
 
 -- a good heartbeat's fields are within their bits
 pub in-bits : (h : Heartbeat) → goodHeartbeat h ≡ true → HeartbeatBits h
@@ -60,7 +59,3 @@ read-written m long bytes id =
     let t = time-back (b 2) (b 3) (b 4) in
     let n = counts-back (b 5) (b 6) in
     simp (t .0, t .1, t .2, n .0, n .1) (sym (spread 7 m long ∙ ap (λ (x : ℕ). x ∷ upTo 6 (λ i. getD m (suc i) 0)) id))
-
-pub values : Values
-unfolding reading heartbeatIn
-values = (refl, refl, refl, refl)

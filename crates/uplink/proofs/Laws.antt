@@ -13,7 +13,7 @@ use Rattle.uplink.specs.declared.Added.the-variants.{Done, Refused}
 use Rattle.uplink.specs.Walk.{listed, before, walk, listing}
 use Rattle.uplink.specs.Answers.{counted}
 use Rattle.uplink.specs.Adding.{isGood, adding, withFrame}
-use Rattle.uplink.specs.Claims.{Fixed, Content, contentOf, contents, newFrame, AddedListed, AllAdded, nothing, also, AllAddedListed, Values}
+use Rattle.uplink.specs.Claims.{Fixed, Content, contentOf, contents, newFrame, AddedListed, AllAdded, nothing, also, AllAddedListed}
 use Rattle.uplink.specs.Samples.{bytesOf, rows, graphical1, graphical2, textual, Samples}
 use Rattle.uplink.proofs.Rows.{InRow, row-le, in-row}
 use Rattle.uplink.proofs.Putting.{good}
@@ -66,10 +66,6 @@ added p r cs (also a b) fs end is =
 pub all-added-listed : AllAddedListed
 unfolding contents
 all-added-listed p q cs end is a = added p q cs a [] end is ∙ rw is
-
-pub values : Values
-unfolding counted listing walk before
-values = (refl, refl, refl, refl)
 
 pub samples : Samples
 unfolding counted listing walk before bytesOf rows graphical1 graphical2 textual

@@ -8,7 +8,6 @@ use Rattle.uplink.specs.declared.Frame.{Frame}
 use Rattle.uplink.specs.declared.Found.the-variants as nth
 use Rattle.uplink.specs.declared.Listing.the-variants as list
 use Rattle.uplink.specs.declared.Added.the-variants.{Done}
-use Rattle.uplink.specs.Frames.{lengthIn}
 use Rattle.uplink.specs.Walk.{Frames, listed, refused, validBit, listing}
 use Rattle.uplink.specs.Answers.{counted, numbered, dataIn}
 use Rattle.uplink.specs.Adding.{Adds}
@@ -76,11 +75,3 @@ AllAddedListed =
 -- a header with the valid bit set and nothing else, the application data, and zeros behind them
 abbrev pub payload : List ℕ → ℕ → List ℕ
 payload xs zeros = 0 ∷ 0 ∷ 0 ∷ 0 ∷ 0 ∷ 0 ∷ 32 ∷ 0 ∷ xs ++ replicate zeros 0
-
--- 01's value 10
-abbrev pub Values : Type 0
-Values =
-    (lengthIn 0x96 0x00 ≡ 300)
-    × (lengthIn 0x00 0x80 ≡ 1)
-    × (counted (listing (payload (0xD3 ∷ 0x00 ∷ []) 422)) ≡ list.Frames 1 424)
-    × (counted (listing (payload (0xD3 ∷ 0x80 ∷ []) 422)) ≡ list.Refused 11)
