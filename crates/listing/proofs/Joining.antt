@@ -8,12 +8,12 @@ use native.Mathlib.Omega.{arith}
 use lib.Dec.{ltb, leb}
 use lib.ListN.{length, take, drop, length-take}
 use lib.Seq.{sets-eq, take-append-seam, length-take-le, take-take, take-add, take-nil}
-use borrow.Author.Tests.{ltb-true}
+use borrow.Author.Tests.{ltb-true, lt-ltb, le-leb}
 use Rattle.numbers.specs.Lent.{Stored}
 use Rattle.listing.specs.declared.Processed.{Processed}
 use Rattle.listing.specs.Listing.{limit, longest, State, state, opening, start, counted, advanced, textOf, reached, texts, listing, Sane, takenOf, Processes}
 use Rattle.listing.specs.Stretches.{Run, stop, full, call}
-use Rattle.listing.specs.Claims.{Joined}
+use Rattle.listing.specs.Claims.{Joined, Moves}
 use Rattle.listing.proofs.Steps.{sane-opening, sane-advanced, steady-sane, settled-sane, reached-append, texts-append}
 
 -- what is stored at the front of a list that is long enough is read there
@@ -114,3 +114,7 @@ joined bs text s q =
     let e : Ends start bs text s = ends q sane-opening in
     let w : Sane (reached start (take limit bs) .lister) = sane-reached start (take limit bs) sane-opening (omega (arith, length-take limit bs)) in
     rw (e .0, e .1, steady-sane (reached start (take limit bs) .lister) w)
+
+pub moves : Moves
+unfolding takenOf
+moves s b bs room l r = simp (lt-ltb (s .lister .taken) limit l, le-leb longest room r) (omega arith)

@@ -5,6 +5,7 @@ use mathlib.Core.Bool.{Bool}
 use mathlib.Core.List.{List, [], _∷_, _++_}
 use lib.ListN.{getD}
 use Rattle.fields.specs.Reading.{reading}
+use Rattle.kinds.specs.Bytes.{eightAt, noBytes}
 use Rattle.kinds.specs.declared.Bytes8.{Bytes8}
 use Rattle.kinds.specs.declared.BasicPassThrough.{BasicPassThrough}
 use Rattle.kinds.specs.declared.BasicRead.{BasicRead}
@@ -15,19 +16,6 @@ use Rattle.kinds.specs.declared.Message.the-variants as kind
 use Rattle.kinds.specs.declared.Reading.{Reading}
 use Rattle.kinds.specs.declared.Reading.the-variants.{Message, Refused}
 use Rattle.passing.specs.Reception.{receptionIn, goodReception, received}
-
--- eight bytes from a place on
-abbrev pub eightAt : List ℕ → ℕ → Bytes8
-eightAt m at = record {
-  0 = getD m at 0;
-  1 = getD m (at + 1) 0;
-  2 = getD m (at + 2) 0;
-  3 = getD m (at + 3) 0;
-  4 = getD m (at + 4) 0;
-  5 = getD m (at + 5) 0;
-  6 = getD m (at + 6) 0;
-  7 = getD m (at + 7) 0;
-}
 
 abbrev pub eight : Bytes8 → List ℕ
 eight b = b .0 ∷ b .1 ∷ b .2 ∷ b .3 ∷ b .4 ∷ b .5 ∷ b .6 ∷ b .7 ∷ []
@@ -49,9 +37,6 @@ basicPayload p = eight (p .a) ++ (eight (p .b) ++ (p .e ∷ p .f ∷ []))
 
 abbrev pub basicPassThroughBytes : BasicPassThrough → List ℕ
 basicPassThroughBytes p = received 30 (p .reception) (basicPayload p)
-
-abbrev pub noBytes : Bytes8
-noBytes = record { 0 = 0; 1 = 0; 2 = 0; 3 = 0; 4 = 0; 5 = 0; 6 = 0; 7 = 0 }
 
 abbrev pub basicRefused : ℕ → BasicRead
 basicRefused k = record { number = k; basic = record { reception = Steps 0; a = noBytes; b = noBytes; e = 0; f = 0 } }

@@ -9,6 +9,7 @@ use lib.Signed.{leZ}
 use Rattle.fields.specs.Reading.{reading}
 use Rattle.report.specs.Marks.{isNone, placeOf, stepsOr, knotsOr, climbOr}
 use Rattle.report.specs.Bytes.{reportIn}
+use Rattle.kinds.specs.Bytes.{noBytes}
 use Rattle.kinds.specs.declared.Position.{Position}
 use Rattle.kinds.specs.declared.Report.{Report}
 use Rattle.flat.specs.declared.FlatReportRead.{FlatReportRead}
@@ -77,7 +78,7 @@ reportRefused k = record {
     climb = pos 0;
     track = 0;
     emitter = 0;
-    «call_sign» = record { 0 = 0; 1 = 0; 2 = 0; 3 = 0; 4 = 0; 5 = 0; 6 = 0; 7 = 0 };
+    «call_sign» = noBytes;
     priority = 0;
     spare = 0;
   };

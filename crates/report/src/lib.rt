@@ -5,7 +5,8 @@ ghost use lib.ListN.{length};
 ghost use Rattle.fields.specs.Writing.{Wrote};
 ghost use Rattle.numbers.specs.Signed.{signedIn, fieldOf};
 ghost use Rattle.report.specs.Marks.{stepsOr, knotsOr, climbOr, placeOf, isNone, noneMark, bit, altitudeOf, speedOf, climbOf, positionOf};
-ghost use Rattle.report.specs.Bytes.{three, threeAt, twelveHigh, highAt, twelveLow, lowAt, callSignIn, codesIn, codesOf, reportIn, packed, reportBytes};
+ghost use Rattle.kinds.specs.Bytes.{eightAt};
+ghost use Rattle.report.specs.Bytes.{three, threeAt, twelveHigh, highAt, twelveLow, lowAt, codesIn, codesOf, reportIn, packed, reportBytes};
 ghost use Rattle.report.specs.Reading.{between, goodPosition, withinBits, goodReport, reportAccepted, reportRefused, reportRead};
 use fields::Written;
 use flat::FlatReport;
@@ -244,7 +245,7 @@ fn packed_report(id: u8, report: Report, c: Codes) -> [u8; 28]
 
 fn call_sign_in(message: &[u8]) -> Bytes8
     requires { ⌜ length (now message) ≡ 28 ⌝ }
-    ensures { λ r. ⌜ r ≡ callSignIn (now (message .entry)) ⌝ }
+    ensures { λ r. ⌜ r ≡ eightAt (now (message .entry)) 19 ⌝ }
 {
     Bytes8(
         message[19],
