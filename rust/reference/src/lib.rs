@@ -1,10 +1,11 @@
-//! Second implementation of GDL 90 framing, collecting, messages and uplink
-//! payloads, written from 001 and 01, so that the proved library has something
-//! independent to be compared with.
+//! Second implementation of GDL 90 framing, collecting, messages, uplink payloads
+//! and the frame lister, written from 001 and 01, so that the proved library has
+//! something independent to be compared with.
 
 pub mod collecting;
 pub mod fcs;
 pub mod framing;
+pub mod listing;
 pub mod messages;
 pub mod payloads;
 pub mod recording;

@@ -1,0 +1,193 @@
+//! The lister's output, 01: one line for each answer to a byte stream.
+
+use std::io::{self, BufWriter, ErrorKind, Read, Write};
+
+use crate::collecting::{Answer, Collector};
+use crate::framing::FLAG;
+use crate::messages;
+
+/// As many bytes are listed at most (01).
+pub const LIMIT: u64 = 4_294_967_295;
+
+/// Bytes asked for at a time.
+pub const BLOCK: usize = 1 << 16;
+
+const HEADER: &[u8] = b"n at ans id len\n";
+
+/// The longest line: two numbers of ten digits, an answer, an id and a length,
+/// and a byte behind each.
+const LINE_MAX: usize = 11 + 11 + 2 + 4 + 4;
+
+/// What ended a listing early.
+#[derive(Debug)]
+pub enum Failure {
+    Reading(io::Error),
+    Writing(io::Error),
+}
+
+/// Lists the input to its end or to the limit. The lines of what came are
+/// written before more is asked for.
+pub fn list(input: impl Read, output: impl Write) -> Result<(), Failure> {
+    list_up_to(LIMIT, input, output)
+}
+
+fn list_up_to(limit: u64, input: impl Read, output: impl Write) -> Result<(), Failure> {
+    let mut input = input.take(limit);
+    let mut out = BufWriter::with_capacity(BLOCK, output);
+    let mut block = vec![0; BLOCK];
+    let mut lister = Lister::default();
+    out.write_all(HEADER).map_err(Failure::Writing)?;
+    loop {
+        out.flush().map_err(Failure::Writing)?;
+        match input.read(&mut block) {
+            Ok(0) => break,
+            Ok(length) => lister.list(&block[..length], &mut out),
+            Err(error) if error.kind() == ErrorKind::Interrupted => Ok(()),
+            Err(error) => return Err(Failure::Reading(error)),
+        }
+        .map_err(Failure::Writing)?;
+    }
+    let end = lister.end(&mut out).and_then(|()| out.flush());
+    end.map_err(Failure::Writing)
+}
+
+/// The listing of a whole stream.
+pub fn listing(stream: &[u8]) -> Vec<u8> {
+    let mut out = Vec::new();
+    list(stream, &mut out).expect("memory can be read and written");
+    out
+}
+
+#[derive(Default)]
+struct Lister {
+    collector: Collector,
+    lines: u64,
+    taken: u64,
+    /// Bytes before the first flag, once there was one.
+    lead_in: Option<u64>,
+    /// Offset behind the last flag.
+    opened: u64,
+}
+
+impl Lister {
+    fn list(&mut self, bytes: &[u8], out: &mut impl Write) -> io::Result<()> {
+        for stretch in bytes.split_inclusive(|&byte| byte == FLAG) {
+            self.taken += stretch.len() as u64;
+            let [before @ .., FLAG] = stretch else {
+                self.collect(stretch);
+                break;
+            };
+            self.collect(before);
+            self.close(out)?;
+        }
+        Ok(())
+    }
+
+    /// Bytes without a flag, which have no answer.
+    fn collect(&mut self, bytes: &[u8]) {
+        for &byte in bytes {
+            self.collector.push(byte);
+        }
+    }
+
+    /// The line of what the flag closes. Nothing between two flags has none.
+    fn close(&mut self, out: &mut impl Write) -> io::Result<()> {
+        let (answer, id_and_length) = match self.collector.push(FLAG) {
+            Answer::None => (None, None),
+            Answer::Message(message) => {
+                let answer = messages::read(message).err().unwrap_or(0);
+                (Some(answer), Some((message[0], message.len())))
+            }
+            Answer::Refused(number) => (Some(number), None),
+        };
+        if let Some(answer) = answer {
+            self.lines += 1;
+            answer_line(self.lines, self.opened, answer, id_and_length).write(out)?;
+        }
+        self.lead_in.get_or_insert(self.taken - 1);
+        self.opened = self.taken;
+        Ok(())
+    }
+
+    /// Without a flag every byte is lead-in, and none is behind the last.
+    fn end(&self, out: &mut impl Write) -> io::Result<()> {
+        let (lead_in, trail) = match self.lead_in {
+            Some(lead_in) => (lead_in, self.taken - self.opened),
+            None => (self.taken, 0),
+        };
+        out.write_all(b"end ")?;
+        let mut line = Line::new();
+        line.put_field(trail);
+        line.put_field(lead_in);
+        line.write(out)
+    }
+}
+
+/// The fields last to first: the line is filled from its end.
+fn answer_line(number: u64, at: u64, answer: u8, id_and_length: Option<(u8, usize)>) -> Line {
+    let mut line = Line::new();
+    match id_and_length {
+        Some((id, length)) => {
+            line.put_field(length as u64);
+            line.put_field(id.into());
+        }
+        None => {
+            line.put_dash();
+            line.put_dash();
+        }
+    }
+    line.put_field(answer.into());
+    line.put_field(at);
+    line.put_field(number);
+    line
+}
+
+/// A line that is filled from its end.
+struct Line {
+    bytes: [u8; LINE_MAX],
+    start: usize,
+}
+
+impl Line {
+    fn new() -> Self {
+        Self {
+            bytes: [0; LINE_MAX],
+            start: LINE_MAX,
+        }
+    }
+
+    fn put(&mut self, byte: u8) {
+        self.start -= 1;
+        self.bytes[self.start] = byte;
+    }
+
+    /// What stands behind a field: a line feed behind the last.
+    fn put_gap(&mut self) {
+        let gap = if self.start == LINE_MAX { b'\n' } else { b' ' };
+        self.put(gap);
+    }
+
+    fn put_dash(&mut self) {
+        self.put_gap();
+        self.put(b'-');
+    }
+
+    /// In decimal, without zeros in front.
+    fn put_field(&mut self, mut number: u64) {
+        self.put_gap();
+        loop {
+            self.put(b'0' + (number % 10) as u8);
+            number /= 10;
+            if number == 0 {
+                break;
+            }
+        }
+    }
+
+    fn write(&self, out: &mut impl Write) -> io::Result<()> {
+        out.write_all(&self.bytes[self.start..])
+    }
+}
+
+#[cfg(test)]
+mod tests;
