@@ -4,7 +4,8 @@
 use crate::collecting::ROOM;
 use crate::fcs::check_sequence;
 use crate::framing::{frame, stuff, Framed, ESCAPE, FLAG, MESSAGE_MAX};
-use crate::messages::{HEARTBEAT_ID, OWNSHIP_ID, TRAFFIC_ID, UPLINK_ID};
+use crate::messages::{HEARTBEAT_ID, LENGTHS, OWNSHIP_ID, TRAFFIC_ID, UPLINK_ID};
+use crate::samples;
 use crate::xorshift::Xorshift;
 
 const SPEED_LENGTH: usize = 1 << 20;
@@ -78,38 +79,56 @@ pub fn tiny(random: &mut Xorshift) -> Vec<u8> {
 }
 
 /// One MiB: a third of it uplinks, the rest heartbeats, ownship and traffic;
-/// one frame in 40 damaged.
+/// one frame in 40 damaged. Behind the id the messages are random bytes.
 pub fn speed_recording() -> Vec<u8> {
+    traffic_of(SPEED_LENGTH, |random, id| {
+        let mut message = random.message(length_of(id));
+        message[0] = id;
+        message
+    })
+}
+
+/// The same mix in this length, of messages that can be read.
+pub fn readable_recording(length: usize) -> Vec<u8> {
+    traffic_of(length, samples::whole)
+}
+
+/// Makes a message of the kind with this id.
+type Make = fn(&mut Xorshift, u8) -> Vec<u8>;
+
+fn traffic_of(length: usize, make: Make) -> Vec<u8> {
     let mut random = Xorshift::new(6);
     let mut out = Vec::new();
     let mut uplinks = 0;
-    while out.len() < SPEED_LENGTH {
-        let uplink = 3 * uplinks <= out.len();
-        let message = typical_message(&mut random, uplink);
+    while out.len() < length {
+        let id = typical_id(&mut random, 3 * uplinks <= out.len());
+        let message = make(&mut random, id);
         let part = match random.below(40) {
             0 => damaged(&mut random, &message),
             _ => framed(&message),
         };
-        if uplink {
+        if id == UPLINK_ID {
             uplinks += part.len();
         }
         out.extend(part);
     }
-    out.truncate(SPEED_LENGTH);
+    out.truncate(length);
     out
 }
 
-/// Id and length as in 001 §3, the rest random.
-fn typical_message(random: &mut Xorshift, uplink: bool) -> Vec<u8> {
-    let (id, length) = match random.below(4) {
-        _ if uplink => (UPLINK_ID, MESSAGE_MAX),
-        0 => (HEARTBEAT_ID, 7),
-        1 => (OWNSHIP_ID, 28),
-        _ => (TRAFFIC_ID, 28),
-    };
-    let mut message = random.message(length);
-    message[0] = id;
-    message
+fn typical_id(random: &mut Xorshift, uplink: bool) -> u8 {
+    match random.below(4) {
+        _ if uplink => UPLINK_ID,
+        0 => HEARTBEAT_ID,
+        1 => OWNSHIP_ID,
+        _ => TRAFFIC_ID,
+    }
+}
+
+/// As in 001 §3.
+fn length_of(id: u8) -> usize {
+    let kind = LENGTHS.iter().find(|kind| kind.0 == id);
+    kind.expect("an id of 001").1
 }
 
 /// Short ones more often, so that a stream has many frames.
@@ -247,6 +266,7 @@ fn without_flags(random: &mut Xorshift, length: usize) -> Vec<u8> {
 mod tests {
     use super::*;
     use crate::collecting::{answers, Kept};
+    use crate::messages::read;
 
     fn count(kept: &[Kept], wanted: impl Fn(&Kept) -> bool) -> usize {
         kept.iter().filter(|kept| wanted(kept)).count()
@@ -275,16 +295,28 @@ mod tests {
     }
 
     #[test]
-    fn speed_recording_is_as_described() {
-        let stream = speed_recording();
-        assert_eq!(stream.len(), 1 << 20);
-        let kept = answers(&stream);
-        let uplinks = count(&kept, |kept| kept.message.len() == MESSAGE_MAX);
-        assert!((30..=36).contains(&(uplinks * 440 * 100 / stream.len())));
-        let refused = count(&kept, |kept| kept.number != 0);
-        assert!((30..=80).contains(&(kept.len() / refused)));
-        for number in 1..=5 {
-            assert!(count(&kept, |kept| kept.number == number) > 0);
+    fn speed_recordings_are_as_described() {
+        for stream in [speed_recording(), readable_recording(SPEED_LENGTH)] {
+            assert_eq!(stream.len(), 1 << 20);
+            let kept = answers(&stream);
+            let uplinks = count(&kept, |kept| kept.message.len() == MESSAGE_MAX);
+            assert!((30..=36).contains(&(uplinks * 440 * 100 / stream.len())));
+            let refused = count(&kept, |kept| kept.number != 0);
+            assert!((30..=80).contains(&(kept.len() / refused)));
+            for number in 1..=5 {
+                assert!(count(&kept, |kept| kept.number == number) > 0);
+            }
+        }
+    }
+
+    #[test]
+    fn readable_recording_is_read() {
+        let kept = answers(&readable_recording(1 << 18));
+        for id in [HEARTBEAT_ID, UPLINK_ID, OWNSHIP_ID, TRAFFIC_ID] {
+            let of_kind = |kept: &Kept| kept.message.first() == Some(&id);
+            let unread = |kept: &Kept| of_kind(kept) && read(&kept.message).is_err();
+            assert!(count(&kept, of_kind) > 100, "id {id}");
+            assert!(count(&kept, unread) < 5, "id {id}");
         }
     }
 }
