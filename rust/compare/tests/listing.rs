@@ -1,0 +1,301 @@
+//! The proved lister, run as a program, and the reference list the same.
+
+use std::fs::{self, File};
+use std::io::{self, ErrorKind, Read, Write};
+use std::path::Path;
+use std::process::{Command, Stdio};
+use std::thread;
+use std::time::Duration;
+
+use reference::fcs::check_sequence;
+use reference::framing::{ESCAPE, FLAG, MESSAGE_MAX};
+use reference::listing::{list, listing, BLOCK, LIMIT};
+use reference::messages::LENGTHS;
+use reference::recording::{between_flags, framed, mixed, readable_recording, tiny};
+use reference::samples::{damaged, whole};
+use reference::vectors::HEARTBEAT;
+use reference::xorshift::Xorshift;
+
+/// Streams of each sort.
+const SEEDS: u64 = 60;
+
+fn lister() -> Command {
+    let program = Path::new(env!("CARGO_MANIFEST_DIR")).join("../../target/bin/lister");
+    assert!(
+        program.is_file(),
+        "{} is not there: run `rt check lister` first",
+        program.display()
+    );
+    Command::new(program)
+}
+
+/// The stream as a file, which the program reads in whole blocks. The name is
+/// the test's own.
+fn proved(name: &str, stream: &[u8]) -> Vec<u8> {
+    let path = Path::new(env!("CARGO_TARGET_TMPDIR")).join(format!("{name}.gdl90"));
+    fs::write(&path, stream).expect("a file is written");
+    let input = File::open(&path).expect("a file is read");
+    let output = lister().stdin(input).output().expect("the lister runs");
+    fs::remove_file(&path).expect("a file is removed");
+    assert!(output.status.success(), "{name}: {}", output.status);
+    assert!(output.stderr.is_empty(), "{name}: {:?}", output.stderr);
+    output.stdout
+}
+
+fn assert_same(name: &str, stream: &[u8]) {
+    assert_equal(name, &proved(name, stream), &listing(stream));
+}
+
+/// Whole listings are too long to be shown.
+fn assert_equal(name: &str, proved: &[u8], expected: &[u8]) {
+    if proved == expected {
+        return;
+    }
+    let [proved, expected] = [proved, expected].map(String::from_utf8_lossy);
+    let mut lines = proved.split('\n').zip(expected.split('\n'));
+    match lines.find(|(proved, expected)| proved != expected) {
+        Some((proved, expected)) => panic!("{name}: {proved:?} where it is {expected:?}"),
+        None => panic!("{name}: the one listing goes on behind the other"),
+    }
+}
+
+/// A message of any length with its check sequence.
+fn sent(message: &[u8]) -> Vec<u8> {
+    let sequence = check_sequence(message).to_le_bytes();
+    between_flags(&[message, &sequence].concat())
+}
+
+fn any_mixed(random: &mut Xorshift) -> Vec<u8> {
+    let bound = [200, 5_000, 4 * BLOCK][random.below(3)];
+    let length = random.below(bound);
+    mixed(random, length)
+}
+
+/// Messages of every kind, whole and damaged before they were framed.
+fn messages(random: &mut Xorshift) -> Vec<u8> {
+    let count = random.below(400);
+    let one = |_| {
+        let (id, _) = LENGTHS[random.below(LENGTHS.len())];
+        let make = [whole, damaged][random.below(2)];
+        sent(&make(random, id))
+    };
+    (0..count).flat_map(one).collect()
+}
+
+fn garbage(random: &mut Xorshift) -> Vec<u8> {
+    let length = random.below(2 * BLOCK);
+    let eighths = random.below(5);
+    random.message_with_escapes(length, eighths)
+}
+
+type Make = fn(&mut Xorshift) -> Vec<u8>;
+
+#[test]
+fn generated_streams() {
+    let sorts: [(&str, Make); 4] = [
+        ("mixed", any_mixed),
+        ("tiny", tiny),
+        ("messages", messages),
+        ("garbage", garbage),
+    ];
+    let mut answers = [0; 9];
+    for (sort, make) in sorts {
+        for seed in 1..=SEEDS {
+            // Seeds that differ in few bits start alike.
+            let stream = make(&mut Xorshift::new(seed.wrapping_mul(0x9E37_79B9_7F4A_7C15)));
+            let expected = listing(&stream);
+            let name = format!("{sort} of seed {seed}");
+            assert_equal(&name, &proved(&name, &stream), &expected);
+            count_answers(&expected, &mut answers);
+        }
+    }
+    assert!(answers.iter().all(|&count| count > 50), "{answers:?}");
+}
+
+fn count_answers(listing: &[u8], answers: &mut [usize; 9]) {
+    let text = String::from_utf8_lossy(listing);
+    for line in text.lines().skip(1).filter(|line| !line.starts_with("end")) {
+        let answer = line.split(' ').nth(2).expect("an answer");
+        answers[answer.parse::<usize>().expect("a number")] += 1;
+    }
+}
+
+/// Every stream of up to four of the bytes that matter to collecting.
+#[test]
+fn short_streams() {
+    let mut streams = vec![vec![]];
+    let mut at = 0;
+    while at < streams.len() {
+        let stream: Vec<u8> = streams[at].clone();
+        assert_same(&format!("short {stream:02X?}"), &stream);
+        if stream.len() < 4 {
+            let longer = |byte| [&stream[..], &[byte]].concat();
+            streams.extend([FLAG, ESCAPE, 0x5E, 0x5D, 0x00].map(longer));
+        }
+        at += 1;
+    }
+}
+
+/// With and without a flag in front and behind.
+#[test]
+fn nothing_but_escapes() {
+    let lengths = (5..9).chain(435..=441).chain(874..=880);
+    for length in lengths.chain(BLOCK - 2..=BLOCK + 2) {
+        for flags in 0..4 {
+            let front = &[FLAG][..flags % 2];
+            let behind = &[FLAG][..flags / 2];
+            let stream = [front, &vec![ESCAPE; length], behind].concat();
+            assert_same(&format!("{length} escapes, flags {flags}"), &stream);
+        }
+    }
+}
+
+/// 437 to 440 unstuffed bytes, the sequence right and wrong, more and fewer of
+/// them escaped, and an escape behind them.
+#[test]
+fn bodies_around_the_longest() {
+    let mut random = Xorshift::new(50);
+    let mut stream = Vec::new();
+    for length in MESSAGE_MAX + 1..=MESSAGE_MAX + 4 {
+        for eighths in [0, 1, 4, 8] {
+            let mut frame = sent(&random.message_with_escapes(length - 2, eighths));
+            stream.extend(&frame);
+            let flag = frame.pop();
+            for behind in [&[][..], &[ESCAPE], &[ESCAPE, 0x00], &[ESCAPE, 0x5E]] {
+                stream.extend([&frame, behind].concat());
+                stream.extend(flag);
+            }
+            // The last byte but the flag is of the sequence, escaped or not.
+            *frame.last_mut().expect("a byte") ^= 0x03;
+            stream.extend(frame);
+            stream.extend(flag);
+        }
+    }
+    assert_same("longest", &stream);
+}
+
+#[test]
+fn flags_doubled_shared_and_missing() {
+    let frame = sent(&HEARTBEAT);
+    let doubled = [&[FLAG; 3], &frame[..], &[FLAG; 2], &frame].concat();
+    assert_same("doubled", &doubled);
+    assert_same("shared", &[&frame[..], &frame[1..], &frame[1..]].concat());
+    for length in 0..frame.len() {
+        assert_same("not closed", &[&frame, &frame[..length]].concat());
+        assert_same("not opened", &[&frame[length..], &frame].concat());
+    }
+}
+
+/// Fields are random; zeros, which are in range in every kind, for each id of
+/// the list. 437 bytes are too long.
+#[test]
+fn every_id_in_every_length() {
+    let mut random = Xorshift::new(51);
+    let mut stream = Vec::new();
+    for length in 1..=MESSAGE_MAX + 1 {
+        for id in 0..=255 {
+            let mut message = random.message(length);
+            message[0] = id;
+            stream.extend(sent(&message));
+        }
+        for (id, _) in LENGTHS {
+            let mut message = vec![0; length];
+            message[0] = id;
+            stream.extend(sent(&message));
+        }
+    }
+    assert_same("ids and lengths", &stream);
+}
+
+#[test]
+fn escapes_at_the_border_of_a_block() {
+    let mut random = Xorshift::new(52);
+    for before in 0..24 {
+        let message = random.message_with_escapes(8, 6);
+        for filler in [FLAG, ESCAPE, 0x00] {
+            let mut stream = vec![filler; BLOCK - before];
+            stream.extend(sent(&message));
+            stream.resize(2 * BLOCK - before, FLAG);
+            stream.extend([&[FLAG, ESCAPE][..], &sent(&message)].concat());
+            assert_same(&format!("border {before} {filler}"), &stream);
+        }
+    }
+}
+
+#[test]
+fn large_offsets() {
+    let mut stream = vec![0x55; 1_000_000];
+    stream.extend(readable_recording(20 << 20));
+    assert_same("large", &stream);
+}
+
+/// Runs the lister on what the writer sends through a pipe.
+fn proved_through_a_pipe(send: impl FnOnce(&mut dyn Write) -> io::Result<()> + Send) -> Vec<u8> {
+    let mut child = lister()
+        .stdin(Stdio::piped())
+        .stdout(Stdio::piped())
+        .spawn()
+        .expect("the lister runs");
+    let mut input = child.stdin.take().expect("a pipe");
+    let mut output = Vec::new();
+    thread::scope(|scope| {
+        scope.spawn(move || send(&mut input).expect("the lister reads"));
+        let mut pipe = child.stdout.take().expect("a pipe");
+        pipe.read_to_end(&mut output).expect("the lister writes");
+    });
+    assert!(child.wait().expect("the lister ends").success());
+    output
+}
+
+/// Long enough for the lister to have read what was sent.
+const PAUSE: Duration = Duration::from_micros(100);
+
+#[test]
+fn input_in_pieces() {
+    for (seed, length, piece) in [(53, 2_000, 1), (54, 9_000, 7), (55, 400_000, 997)] {
+        let stream = mixed(&mut Xorshift::new(seed), length);
+        let output = proved_through_a_pipe(|input| {
+            stream.chunks(piece).try_for_each(|piece| {
+                input.write_all(piece)?;
+                thread::sleep(PAUSE);
+                Ok(())
+            })
+        });
+        let name = format!("pieces of {piece}, seed {seed}");
+        assert_equal(&name, &output, &listing(&stream));
+    }
+}
+
+/// Zeros in front of frames, of which the first is closed by the last byte that
+/// is listed. What is behind it does not count.
+fn over_the_limit() -> impl Read {
+    let [first, second] = [framed(&HEARTBEAT), framed(&[2, 0, 0])];
+    let zeros = LIMIT - first.len() as u64;
+    let frames = [&first[..], &[0x00], &second, &second].concat();
+    io::repeat(0x00).take(zeros).chain(io::Cursor::new(frames))
+}
+
+/// Takes 20 seconds: `cargo test --manifest-path rust/Cargo.toml --release
+/// --offline -p compare --test listing -- --ignored`
+#[test]
+#[ignore = "more than 4 GiB"]
+fn no_byte_over_the_limit_is_listed() {
+    let output = proved_through_a_pipe(|input| {
+        let mut stream = over_the_limit();
+        let mut block = vec![0; BLOCK];
+        loop {
+            let length = stream.read(&mut block)?;
+            match input.write_all(&block[..length]) {
+                // It ended before its input did.
+                Err(error) if error.kind() == ErrorKind::BrokenPipe => return Ok(()),
+                Ok(()) if length == 0 => return Ok(()),
+                sent => sent?,
+            }
+        }
+    });
+    let mut expected = Vec::new();
+    list(over_the_limit(), &mut expected).expect("memory can be read and written");
+    assert_equal("limit", &output, &expected);
+    let lines = "n at ans id len\n1 4294967285 0 0 7\nend 4294967284 0\n";
+    assert_equal("limit", &output, lines.as_bytes());
+}
