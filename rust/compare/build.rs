@@ -1,30 +1,22 @@
-//! Finds the proved archives and has them linked.
+//! Has the archive linked that is there to be measured, from the folder in which
+//! the crate gdl90 found the library.
 
-use std::path::{Path, PathBuf};
+use std::path::PathBuf;
 use std::process::ExitCode;
 
-/// The library, and the layer with a state by value, for measuring only.
-const ARCHIVES: [&str; 2] = ["gdl90", "by_value"];
-
 fn main() -> ExitCode {
-    println!("cargo:rerun-if-env-changed=GDL90_LIB_DIR");
-    let folder = match std::env::var_os("GDL90_LIB_DIR") {
-        Some(folder) => PathBuf::from(folder),
-        None => Path::new(env!("CARGO_MANIFEST_DIR")).join("../../target/staticlib"),
-    };
-    println!("cargo:rustc-link-search=native={}", folder.display());
-    for name in ARCHIVES {
-        let archive = folder.join(format!("lib{name}.a"));
-        println!("cargo:rerun-if-changed={}", archive.display());
-        if !archive.is_file() {
-            eprintln!(
-                "{} is not there: run `rt staticlib {name}` first, \
-                 or set GDL90_LIB_DIR to the folder that has lib{name}.a",
-                archive.display()
-            );
-            return ExitCode::FAILURE;
-        }
-        println!("cargo:rustc-link-lib=static={name}");
+    let folder = std::env::var_os("DEP_GDL90_LIB_DIR").expect("the crate gdl90 says it");
+    let folder = PathBuf::from(folder);
+    let archive = folder.join("libby_value.a");
+    println!("cargo:rerun-if-changed={}", archive.display());
+    if !archive.is_file() {
+        eprintln!(
+            "{} is not there: run `rt staticlib by_value` first",
+            archive.display()
+        );
+        return ExitCode::FAILURE;
     }
+    println!("cargo:rustc-link-search=native={}", folder.display());
+    println!("cargo:rustc-link-lib=static=by_value");
     ExitCode::SUCCESS
 }

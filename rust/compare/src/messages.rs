@@ -1,170 +1,225 @@
-//! The proved library's functions for messages, made safe to call.
+//! From the reference's values to those of the crate gdl90 and back, field by
+//! field.
 
-mod conversions;
-mod values;
+use gdl90::{CallSign, GeometricSteps, HeightAboveTerrain, PressureSteps};
+use reference::messages as reference;
 
-pub use values::{
-    RawBasic, RawGeometric, RawHeartbeat, RawHeight, RawInitialization, RawLong, RawReceived,
-    RawReport, RawUplink, BELOW, COUNTS, NONE, OVER,
-};
-
-use reference::messages::{
-    Message, Uplink, BASIC_ID, GEOMETRIC_ID, HEARTBEAT_ID, HEIGHT_ID, INITIALIZATION_ID, LONG_ID,
-    NOT_LISTED, OWNSHIP_ID, TRAFFIC_ID, UPLINK_ID,
-};
-
-/// Answer of reading: the number of 01, and the value, all zero on refusal.
-#[repr(C)]
-#[derive(Clone, Copy, Debug, PartialEq, Eq)]
-pub struct RawRead<T> {
-    pub number: u8,
-    pub value: T,
-}
-
-impl<T> RawRead<T> {
-    #[inline]
-    pub fn result(self) -> Result<T, u8> {
-        match self.number {
-            0 => Ok(self.value),
-            number => Err(number),
-        }
-    }
-}
-
-/// Answer of writing: the number of 01, and the bytes written, 0 on refusal.
-#[repr(C)]
-#[derive(Clone, Copy, Debug, PartialEq, Eq)]
-pub struct RawWritten {
-    pub number: u8,
-    pub length: usize,
-}
-
-impl RawWritten {
-    #[inline]
-    pub fn result(self) -> Result<usize, u8> {
-        match self.number {
-            0 => Ok(self.length),
-            number => Err(number),
-        }
-    }
-}
-
-/// Declares C functions that read one kind of message each, and wraps them.
-macro_rules! readers {
-    ($($name:ident: $function:ident -> $value:ty;)*) => {
-        extern "C" {
-            $(fn $function(message: *const u8, message_len: usize) -> RawRead<$value>;)*
-        }
-        $(
-            #[inline]
-            pub fn $name(message: &[u8]) -> RawRead<$value> {
-                // SAFETY: pointer and length are those of one live slice, which
-                // is only read and not kept.
-                unsafe { $function(message.as_ptr(), message.len()) }
-            }
-        )*
-    };
-}
-
-readers! {
-    read_heartbeat: gdl90_read_heartbeat -> RawHeartbeat;
-    read_initialization: gdl90_read_initialization -> RawInitialization;
-    read_uplink: gdl90_read_uplink -> RawUplink;
-    read_height: gdl90_read_height -> RawHeight;
-    read_geometric: gdl90_read_geometric -> RawGeometric;
-    read_report: gdl90_read_report -> RawReport;
-    read_basic: gdl90_read_basic -> RawBasic;
-    read_long: gdl90_read_long -> RawLong;
-}
-
-/// Declares C functions that write one kind of message each, and wraps them.
-macro_rules! writers {
-    ($($name:ident: $function:ident($value:ty);)*) => {
-        extern "C" {
-            $(fn $function(value: $value, out: *mut u8, out_len: usize) -> RawWritten;)*
-        }
-        $(
-            #[inline]
-            pub fn $name(value: $value, out: &mut [u8]) -> RawWritten {
-                // SAFETY: pointer and length are those of one live slice, which
-                // is borrowed mutably and not kept.
-                unsafe { $function(value, out.as_mut_ptr(), out.len()) }
-            }
-        )*
-    };
-}
-
-writers! {
-    write_heartbeat: gdl90_write_heartbeat(RawHeartbeat);
-    write_initialization: gdl90_write_initialization(RawInitialization);
-    write_height: gdl90_write_height(RawHeight);
-    write_ownship: gdl90_write_ownship(RawReport);
-    write_geometric: gdl90_write_geometric(RawGeometric);
-    write_traffic: gdl90_write_traffic(RawReport);
-    write_basic: gdl90_write_basic(RawBasic);
-    write_long: gdl90_write_long(RawLong);
-}
-
-extern "C" {
-    fn gdl90_write_uplink(
-        value: RawUplink,
-        payload: *const u8,
-        payload_len: usize,
-        out: *mut u8,
-        out_len: usize,
-    ) -> RawWritten;
-}
-
-#[inline]
-pub fn write_uplink(value: RawUplink, payload: &[u8], out: &mut [u8]) -> RawWritten {
-    let (from, to) = (payload.as_ptr(), out.as_mut_ptr());
-    // SAFETY: each pointer and length are those of one live slice. `out` is
-    // borrowed mutably, so it does not overlap `payload`; neither is kept.
-    unsafe { gdl90_write_uplink(value, from, payload.len(), to, out.len()) }
-}
-
-/// Reads a message of whatever kind with its kind's function.
-#[inline]
-pub fn read(message: &[u8]) -> Result<Message, u8> {
-    let Some(id) = message.first() else {
-        return Err(NOT_LISTED);
-    };
-    Ok(match *id {
-        HEARTBEAT_ID => Message::Heartbeat(read_heartbeat(message).result()?.into()),
-        INITIALIZATION_ID => Message::Initialization(read_initialization(message).result()?.into()),
-        UPLINK_ID => Message::Uplink(Uplink {
-            reception: read_uplink(message).result()?.into(),
-            payload: message[4..].to_vec(),
-        }),
-        HEIGHT_ID => Message::Height(read_height(message).result()?.into()),
-        OWNSHIP_ID => Message::Ownship(read_report(message).result()?.into()),
-        GEOMETRIC_ID => Message::Geometric(read_geometric(message).result()?.into()),
-        TRAFFIC_ID => Message::Traffic(read_report(message).result()?.into()),
-        BASIC_ID => Message::Basic(read_basic(message).result()?.into()),
-        LONG_ID => Message::Long(read_long(message).result()?.into()),
-        _ => return Err(NOT_LISTED),
-    })
-}
-
-/// Writes a message of whatever kind with its kind's function; answers the
-/// bytes written.
-#[inline]
-pub fn write(message: &Message, out: &mut [u8]) -> Result<usize, u8> {
-    write_raw(message, out).result()
-}
-
-/// The same, with the answer as it stands.
-#[inline]
-pub fn write_raw(message: &Message, out: &mut [u8]) -> RawWritten {
+/// The value of the crate gdl90.
+pub fn from_reference(message: &reference::Message) -> gdl90::Message<'_> {
     match message {
-        Message::Heartbeat(heartbeat) => write_heartbeat((*heartbeat).into(), out),
-        Message::Initialization(bytes) => write_initialization((*bytes).into(), out),
-        Message::Uplink(uplink) => write_uplink(uplink.reception.into(), &uplink.payload, out),
-        Message::Height(height) => write_height((*height).into(), out),
-        Message::Ownship(report) => write_ownship((*report).into(), out),
-        Message::Geometric(geometric) => write_geometric((*geometric).into(), out),
-        Message::Traffic(report) => write_traffic((*report).into(), out),
-        Message::Basic(basic) => write_basic((*basic).into(), out),
-        Message::Long(long) => write_long((*long).into(), out),
+        reference::Message::Heartbeat(heartbeat) => from_heartbeat(heartbeat).into(),
+        reference::Message::Initialization(bytes) => gdl90::Initialization {
+            first: bytes.first,
+            second: bytes.second,
+        }
+        .into(),
+        reference::Message::Uplink(uplink) => gdl90::Uplink {
+            reception: uplink.reception,
+            payload: &uplink.payload,
+        }
+        .into(),
+        reference::Message::Height(reference::Height(height)) => {
+            HeightAboveTerrain(height.map(|feet| gdl90::TerrainFeet(feet.0))).into()
+        }
+        reference::Message::Ownship(report) => gdl90::Message::Ownship(from_report(report)),
+        reference::Message::Geometric(geometric) => from_geometric(geometric).into(),
+        reference::Message::Traffic(report) => gdl90::Message::Traffic(from_report(report)),
+        reference::Message::Basic(basic) => from_received(basic).into(),
+        reference::Message::Long(long) => from_received(long).into(),
+    }
+}
+
+/// The reference's value.
+pub fn to_reference(message: gdl90::Message<'_>) -> reference::Message {
+    match message {
+        gdl90::Message::Heartbeat(heartbeat) => {
+            reference::Message::Heartbeat(to_heartbeat(heartbeat))
+        }
+        gdl90::Message::Initialization(bytes) => {
+            reference::Message::Initialization(reference::Initialization {
+                first: bytes.first,
+                second: bytes.second,
+            })
+        }
+        gdl90::Message::Uplink(uplink) => reference::Message::Uplink(reference::Uplink {
+            reception: uplink.reception,
+            payload: uplink.payload.to_vec(),
+        }),
+        gdl90::Message::Height(HeightAboveTerrain(height)) => reference::Message::Height(
+            reference::Height(height.map(|feet| reference::TerrainFeet(feet.0))),
+        ),
+        gdl90::Message::Ownship(report) => reference::Message::Ownship(to_report(report)),
+        gdl90::Message::Geometric(geometric) => {
+            reference::Message::Geometric(to_geometric(geometric))
+        }
+        gdl90::Message::Traffic(report) => reference::Message::Traffic(to_report(report)),
+        gdl90::Message::Basic(basic) => reference::Message::Basic(to_received(basic)),
+        gdl90::Message::Long(long) => reference::Message::Long(to_received(long)),
+        other => panic!("the reference has no such kind: {other:?}"),
+    }
+}
+
+fn from_heartbeat(heartbeat: &reference::Heartbeat) -> gdl90::Heartbeat {
+    gdl90::Heartbeat {
+        status_1: heartbeat.status_1,
+        status_2: heartbeat.status_2,
+        time: heartbeat.time,
+        uplinks: heartbeat.uplinks,
+        reserved: heartbeat.reserved,
+        basic_and_long: heartbeat.basic_and_long,
+    }
+}
+
+fn to_heartbeat(heartbeat: gdl90::Heartbeat) -> reference::Heartbeat {
+    reference::Heartbeat {
+        status_1: heartbeat.status_1,
+        status_2: heartbeat.status_2,
+        time: heartbeat.time,
+        uplinks: heartbeat.uplinks,
+        reserved: heartbeat.reserved,
+        basic_and_long: heartbeat.basic_and_long,
+    }
+}
+
+fn from_geometric(geometric: &reference::GeometricAltitude) -> gdl90::GeometricAltitude {
+    gdl90::GeometricAltitude {
+        altitude: GeometricSteps(geometric.altitude.0),
+        warning: geometric.warning,
+        merit: match geometric.merit {
+            reference::Merit::Metres(metres) => Some(gdl90::Merit::Metres(metres)),
+            reference::Merit::Over => Some(gdl90::Merit::Over),
+            reference::Merit::None => None,
+        },
+    }
+}
+
+fn to_geometric(geometric: gdl90::GeometricAltitude) -> reference::GeometricAltitude {
+    reference::GeometricAltitude {
+        altitude: reference::FiveFootSteps(geometric.altitude.0),
+        warning: geometric.warning,
+        merit: match geometric.merit {
+            Some(gdl90::Merit::Metres(metres)) => reference::Merit::Metres(metres),
+            Some(gdl90::Merit::Over) => reference::Merit::Over,
+            None => reference::Merit::None,
+        },
+    }
+}
+
+fn from_received<const N: usize>(received: &reference::Received<N>) -> gdl90::PassThrough<N> {
+    gdl90::PassThrough {
+        reception: received.reception,
+        payload: received.payload,
+    }
+}
+
+fn to_received<const N: usize>(received: gdl90::PassThrough<N>) -> reference::Received<N> {
+    reference::Received {
+        reception: received.reception,
+        payload: received.payload,
+    }
+}
+
+fn from_report(report: &reference::Report) -> gdl90::Report {
+    gdl90::Report {
+        alert: report.alert,
+        address_type: report.address_type,
+        address: report.address,
+        position: from_position(report.position),
+        altitude: report.altitude.map(|steps| PressureSteps(steps.0)),
+        track_kind: from_track_kind(report.track_kind),
+        extrapolated: report.extrapolated,
+        airborne: report.airborne,
+        integrity: report.integrity,
+        accuracy: report.accuracy,
+        speed: match report.speed {
+            reference::Speed::Knots(knots) => Some(gdl90::Speed::Knots(knots)),
+            reference::Speed::Over => Some(gdl90::Speed::Over),
+            reference::Speed::None => None,
+        },
+        climb: match report.climb {
+            reference::Climb::Steps(steps) => Some(gdl90::Climb::Steps(steps)),
+            reference::Climb::Above => Some(gdl90::Climb::Above),
+            reference::Climb::Below => Some(gdl90::Climb::Below),
+            reference::Climb::None => None,
+        },
+        track: report.track,
+        emitter: report.emitter,
+        call_sign: CallSign(report.call_sign),
+        priority: report.priority,
+        spare: report.spare,
+    }
+}
+
+fn to_report(report: gdl90::Report) -> reference::Report {
+    reference::Report {
+        alert: report.alert,
+        address_type: report.address_type,
+        address: report.address,
+        position: to_position(report.position),
+        altitude: report
+            .altitude
+            .map(|steps| reference::AltitudeSteps(steps.0)),
+        track_kind: to_track_kind(report.track_kind),
+        extrapolated: report.extrapolated,
+        airborne: report.airborne,
+        integrity: report.integrity,
+        accuracy: report.accuracy,
+        speed: match report.speed {
+            Some(gdl90::Speed::Knots(knots)) => reference::Speed::Knots(knots),
+            Some(gdl90::Speed::Over) => reference::Speed::Over,
+            None => reference::Speed::None,
+        },
+        climb: match report.climb {
+            Some(gdl90::Climb::Steps(steps)) => reference::Climb::Steps(steps),
+            Some(gdl90::Climb::Above) => reference::Climb::Above,
+            Some(gdl90::Climb::Below) => reference::Climb::Below,
+            None => reference::Climb::None,
+        },
+        track: report.track,
+        emitter: report.emitter,
+        call_sign: report.call_sign.0,
+        priority: report.priority,
+        spare: report.spare,
+    }
+}
+
+fn from_position(position: reference::Position) -> Option<gdl90::Position> {
+    match position {
+        reference::Position::At {
+            latitude,
+            longitude,
+        } => Some(gdl90::Position {
+            latitude,
+            longitude,
+        }),
+        reference::Position::None => None,
+    }
+}
+
+fn to_position(position: Option<gdl90::Position>) -> reference::Position {
+    match position {
+        Some(position) => reference::Position::At {
+            latitude: position.latitude,
+            longitude: position.longitude,
+        },
+        None => reference::Position::None,
+    }
+}
+
+fn from_track_kind(kind: reference::TrackKind) -> gdl90::TrackKind {
+    match kind {
+        reference::TrackKind::NotValid => gdl90::TrackKind::NotValid,
+        reference::TrackKind::TrueTrack => gdl90::TrackKind::TrueTrack,
+        reference::TrackKind::MagneticHeading => gdl90::TrackKind::MagneticHeading,
+        reference::TrackKind::TrueHeading => gdl90::TrackKind::TrueHeading,
+    }
+}
+
+fn to_track_kind(kind: gdl90::TrackKind) -> reference::TrackKind {
+    match kind {
+        gdl90::TrackKind::NotValid => reference::TrackKind::NotValid,
+        gdl90::TrackKind::TrueTrack => reference::TrackKind::TrueTrack,
+        gdl90::TrackKind::MagneticHeading => reference::TrackKind::MagneticHeading,
+        gdl90::TrackKind::TrueHeading => reference::TrackKind::TrueHeading,
     }
 }

@@ -2,8 +2,10 @@
 
 use std::hint::black_box;
 
-use compare::{answers_by_value, feed_raw, Collector, Control, RawFed};
-use reference::collecting::{answers, Kept, ROOM};
+use compare::answers_by_value;
+use gdl90::raw::{self, FeedAnswer, FeedControl};
+use gdl90::{Collector, Error};
+use reference::collecting::{answers, Answer, Kept, ROOM};
 use reference::framing::{FLAG, MESSAGE_MAX};
 use reference::recording::{mixed, tiny};
 use reference::xorshift::Xorshift;
@@ -42,7 +44,7 @@ impl<const N: usize> Guarded<N> {
 
 /// What a caller of the C function holds.
 struct Caller {
-    control: Control,
+    control: FeedControl,
     room: Guarded<ROOM>,
     message: Guarded<MESSAGE_MAX>,
     /// What the message's memory holds before a call.
@@ -50,7 +52,7 @@ struct Caller {
 }
 
 impl Caller {
-    fn new(control: Control, room: [u8; ROOM]) -> Self {
+    fn new(control: FeedControl, room: [u8; ROOM]) -> Self {
         Self {
             control,
             room: Guarded::new(room),
@@ -60,16 +62,16 @@ impl Caller {
     }
 
     fn fresh() -> Self {
-        Self::new(Control::default(), [0; ROOM])
+        Self::new(FeedControl::default(), [0; ROOM])
     }
 
     /// Feeds and checks what holds of every call, whatever the state.
-    fn feed(&mut self, bytes: &[u8]) -> RawFed {
+    fn feed(&mut self, bytes: &[u8]) -> FeedAnswer {
         // It varies, so that it cannot hide behind a byte of the message, and
         // stays odd, so that it is never zero.
         self.fill = self.fill.wrapping_add(2);
         self.message.lent.fill(self.fill);
-        let fed = feed_raw(
+        let fed = raw::feed(
             self.control,
             &mut self.room.lent,
             &mut self.message.lent,
@@ -84,7 +86,7 @@ impl Caller {
     }
 
     /// On 0 zeros stand behind the message; every other call leaves it (01).
-    fn assert_message(&self, fed: &RawFed) {
+    fn assert_message(&self, fed: &FeedAnswer) {
         if fed.answered && fed.number == 0 {
             assert!((1..=MESSAGE_MAX).contains(&fed.length), "{fed:?}");
             let behind = &self.message.lent[fed.length..];
@@ -97,12 +99,21 @@ impl Caller {
 }
 
 /// Only a flag is answered, and all before it and the flag are taken.
-fn assert_taken(fed: &RawFed, bytes: &[u8]) {
+fn assert_taken(fed: &FeedAnswer, bytes: &[u8]) {
     if fed.answered {
         assert_eq!(bytes[..fed.taken].last(), Some(&FLAG), "{fed:?}");
         assert!(fed.number <= 5, "{fed:?}");
     } else {
         assert_eq!((fed.taken, fed.number), (bytes.len(), 0), "{fed:?}");
+    }
+}
+
+/// The answer in the reference's terms.
+fn answer<'a>(fed: &FeedAnswer, message: &'a [u8; MESSAGE_MAX]) -> Answer<'a> {
+    match (fed.answered, fed.number) {
+        (false, _) => Answer::None,
+        (true, 0) => Answer::Message(&message[..fed.length]),
+        (true, number) => Answer::Refused(number),
     }
 }
 
@@ -121,7 +132,7 @@ fn proved_answers(stream: &[u8], mut piece: impl FnMut() -> usize) -> Vec<Kept> 
             if !fed.answered {
                 break;
             }
-            kept.extend(Kept::new(at - 1, fed.answer(&caller.message.lent)));
+            kept.extend(Kept::new(at - 1, answer(&fed, &caller.message.lent)));
         }
     }
     kept
@@ -179,7 +190,16 @@ fn tiny_streams_agree() {
 fn empty_stream_gives_nothing() {
     let mut caller = Caller::fresh();
     let fed = caller.feed(&[]);
-    assert_eq!(fed.control, Control::default());
+    assert_eq!(fed.control, FeedControl::default());
+}
+
+/// An answer of the safe collector as the reference keeps it.
+fn kept(at: usize, answer: Result<&[u8], Error>) -> Option<Kept> {
+    let answer = match answer {
+        Ok(message) => Answer::Message(message),
+        Err(error) => Answer::Refused(error.number()),
+    };
+    Kept::new(at, answer)
 }
 
 #[test]
@@ -188,14 +208,60 @@ fn safe_collector_agrees() {
     for _ in 0..20 {
         let stream = any_mixed(&mut random);
         let mut collector = Collector::new();
-        let mut kept = Vec::new();
+        let mut all = Vec::new();
         let mut at = 0;
         while at < stream.len() {
             let fed = collector.feed(&stream[at..]);
             at += fed.taken;
-            kept.extend(Kept::new(at - 1, fed.answer));
+            assert!(fed.answer.is_some() || at == stream.len());
+            all.extend(fed.answer.and_then(|answer| kept(at - 1, answer)));
         }
-        assert_eq!(kept, answers(&stream), "{stream:02X?}");
+        assert_eq!(all, answers(&stream), "{stream:02X?}");
+    }
+}
+
+/// Slices of any length, at times empty, one collector for all of them.
+#[test]
+fn iterators_over_slices_agree() {
+    let mut random = Xorshift::new(0x0017_E4A7);
+    for _ in 0..200 {
+        let stream = any_mixed(&mut random);
+        let mut collector = Collector::default();
+        let mut all = Vec::new();
+        let mut start = 0;
+        while start < stream.len() {
+            let end = stream.len().min(start + random.below(700));
+            let mut answers = collector.answers(&stream[start..end]);
+            while let Some(answer) = answers.next() {
+                let at = end - answers.rest().len() - 1;
+                let answer = answer.as_ref().map(|message| &message[..]);
+                all.extend(kept(at, answer.map_err(|error| *error)));
+            }
+            assert!(answers.next().is_none(), "an answer behind the last");
+            assert!(answers.rest().is_empty());
+            start = end;
+        }
+        assert_eq!(all, answers(&stream), "{stream:02X?}");
+    }
+}
+
+/// What an iterator that is dropped did not take can be fed again.
+#[test]
+fn dropped_iterators_leave_the_rest() {
+    let mut random = Xorshift::new(0x0D40_99ED);
+    for _ in 0..50 {
+        let stream = any_mixed(&mut random);
+        let mut collector = Collector::new();
+        let (mut all, mut rest) = (Vec::new(), &stream[..]);
+        while !rest.is_empty() {
+            let mut answers = collector.answers(rest);
+            let answer = answers.next();
+            rest = answers.rest();
+            let at = stream.len() - rest.len() - 1;
+            let answer = answer.as_ref().map(|answer| answer.as_deref());
+            all.extend(answer.and_then(|answer| kept(at, answer.map_err(|error| *error))));
+        }
+        assert_eq!(all, answers(&stream), "{stream:02X?}");
     }
 }
 
@@ -220,7 +286,7 @@ fn answers_leave_the_state_of_one_flag() {
 }
 
 /// A state that no stream need lead to.
-fn made_up_control(random: &mut Xorshift) -> Control {
+fn made_up_control(random: &mut Xorshift) -> FeedControl {
     let count = match random.below(8) {
         0 => ROOM,
         1 => ROOM + 1,
@@ -230,7 +296,7 @@ fn made_up_control(random: &mut Xorshift) -> Control {
     };
     let phases = [usize::from(LAST_PHASE) + 2, 256][random.below(2)];
     let phase = random.below(phases) as u8;
-    Control { count, phase }
+    FeedControl { count, phase }
 }
 
 fn random_room(random: &mut Xorshift) -> [u8; ROOM] {

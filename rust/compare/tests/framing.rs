@@ -1,5 +1,9 @@
 //! The proved library and the reference give the same answers.
 
+use std::hint::black_box;
+
+use gdl90::raw::{self, FrameAnswer};
+use gdl90::Error;
 use reference::framing::{Framed, MESSAGE_MAX};
 use reference::xorshift::Xorshift;
 
@@ -15,7 +19,7 @@ fn check_sequences_agree() {
     for round in 0..CHECK_SEQUENCES {
         let message = random.message(round % 1001);
         assert_eq!(
-            compare::check_sequence(&message),
+            gdl90::check_sequence(&message),
             reference::fcs::check_sequence(&message),
             "check sequence of {message:02X?}"
         );
@@ -35,10 +39,52 @@ fn frames_agree() {
     }
 }
 
+/// From no room at all to more than enough, for messages with few escapes, many,
+/// and of lengths that are not framed.
+#[test]
+fn every_room_agrees() {
+    let mut random = Xorshift::new(5);
+    for length in [0, 1, 2, 3, 28, 435, 436, 437, 1_000] {
+        for eighths in [0, 4, 8] {
+            let message = random.message_with_escapes(length, eighths);
+            let frame = reference_frame(&message, &mut [0; ROOM_MAX]);
+            for room in 0..=frame.length + 1 {
+                assert_frames_agree(&message, room, 0xA5);
+                assert_frames_agree(&message, room, 0x5A);
+            }
+        }
+    }
+}
+
+/// In memory of its own, and in any that is lent.
+#[test]
+fn safe_frames_agree() {
+    let mut random = Xorshift::new(6);
+    for round in 0..20 * ROOM_MAX {
+        let eighths = [0, 1, 4, 8][random.below(4)];
+        let message = random.message_with_escapes(round % 441, eighths);
+        let (mut expected, mut out) = ([0xA5; ROOM_MAX], [0xA5; ROOM_MAX]);
+        let room = room_for(&message, &mut random);
+        let answer = reference_frame(&message, &mut expected[..room]);
+        let result = gdl90::frame(&message, &mut out[..room]);
+        assert_eq!(result.map_or_else(Error::number, |_| 0), answer.number);
+        assert_eq!(result.unwrap_or(0), answer.length);
+        assert_eq!(out, expected);
+        let answer = reference_frame(&message, &mut expected);
+        let framed = gdl90::framed(&message);
+        match framed {
+            Ok(frame) => assert_eq!(frame, expected[..answer.length]),
+            Err(error) => assert_eq!(error.number(), answer.number),
+        }
+    }
+}
+
 fn assert_frames_agree(message: &[u8], room: usize, fill: u8) {
     let mut proved = vec![fill; GUARD + room + GUARD];
     let mut expected = proved.clone();
-    let answer = compare::frame(message, &mut proved[GUARD..GUARD + room]);
+    let answer = raw::frame(message, &mut proved[GUARD..GUARD + room]);
+    // The compiler may hold that a call leaves the guards as they are.
+    let proved = black_box(proved);
     let expected_answer = reference_frame(message, &mut expected[GUARD..GUARD + room]);
     assert_eq!(
         answer, expected_answer,
@@ -48,16 +94,17 @@ fn assert_frames_agree(message: &[u8], room: usize, fill: u8) {
 }
 
 /// The reference's answer in the shape of the C function's.
-fn reference_frame(message: &[u8], out: &mut [u8]) -> (u8, usize) {
-    match reference::framing::frame(message, out) {
+fn reference_frame(message: &[u8], out: &mut [u8]) -> FrameAnswer {
+    let (number, length) = match reference::framing::frame(message, out) {
         Framed::Bytes(length) => (0, length),
         Framed::Refused(number) => (number, 0),
-    }
+    };
+    FrameAnswer { number, length }
 }
 
 /// Mostly within three bytes of the frame's length, at times any.
 fn room_for(message: &[u8], random: &mut Xorshift) -> usize {
-    let (_, length) = reference_frame(message, &mut [0; ROOM_MAX]);
+    let length = reference_frame(message, &mut [0; ROOM_MAX]).length;
     let a_message = (1..=MESSAGE_MAX).contains(&message.len());
     if a_message && random.below(8) != 0 {
         length - 3 + random.below(7)

@@ -2,12 +2,13 @@
 
 use std::fmt::Debug;
 use std::hint::black_box;
-use std::mem::{align_of, size_of};
 
-use compare::messages::*;
+use compare::messages::{from_reference, to_reference};
+use gdl90::raw::{self, WriteAnswer, BELOW, NONE, NUMBER, OVER};
+use gdl90::Error;
 use reference::messages::{
-    AltitudeSteps, Climb, GeometricAltitude, Heartbeat, Height, Merit, Message, Report, Speed,
-    TerrainFeet, Uplink, BASIC_ID, GEOMETRIC_ID, HEARTBEAT_ID, HEIGHT_ID, INITIALIZATION_ID,
+    AltitudeSteps, Climb, FiveFootSteps, GeometricAltitude, Heartbeat, Height, Merit, Message,
+    Report, Speed, TerrainFeet, BASIC_ID, GEOMETRIC_ID, HEARTBEAT_ID, HEIGHT_ID, INITIALIZATION_ID,
     LENGTHS, LONG_ID, NOT_LISTED, OUTPUT_TOO_SHORT, OUT_OF_RANGE, OWNSHIP_ID, PAYLOAD_LENGTH,
     RECEPTION_MAX, TRAFFIC_ID, UPLINK_ID, WRONG_LENGTH,
 };
@@ -24,43 +25,61 @@ const ROOM: usize = 440;
 
 /// Reads with the function of the kind with this id.
 fn read_as(id: u8, message: &[u8]) -> Result<Message, u8> {
-    match id {
-        HEARTBEAT_ID => answer(read_heartbeat(message)).map(Message::Heartbeat),
-        INITIALIZATION_ID => answer(read_initialization(message)).map(Message::Initialization),
-        UPLINK_ID => answer(read_uplink(message)).map(|reception| {
-            let payload = message[4..].to_vec();
-            Message::Uplink(Uplink { reception, payload })
-        }),
-        HEIGHT_ID => answer(read_height(message)).map(Message::Height),
-        OWNSHIP_ID => answer(read_report(message)).map(Message::Ownship),
-        GEOMETRIC_ID => answer(read_geometric(message)).map(Message::Geometric),
-        TRAFFIC_ID => answer(read_report(message)).map(Message::Traffic),
-        BASIC_ID => answer(read_basic(message)).map(Message::Basic),
-        LONG_ID => answer(read_long(message)).map(Message::Long),
+    let value = match id {
+        HEARTBEAT_ID => answer(raw::read_heartbeat(message)).map(gdl90::Message::Heartbeat),
+        INITIALIZATION_ID => {
+            answer(raw::read_initialization(message)).map(gdl90::Message::Initialization)
+        }
+        UPLINK_ID => uplink_answer(message).map(gdl90::Message::Uplink),
+        HEIGHT_ID => answer(raw::read_height(message)).map(gdl90::Message::Height),
+        OWNSHIP_ID => answer(raw::read_report(message)).map(gdl90::Message::Ownship),
+        GEOMETRIC_ID => answer(raw::read_geometric(message)).map(gdl90::Message::Geometric),
+        TRAFFIC_ID => answer(raw::read_report(message)).map(gdl90::Message::Traffic),
+        BASIC_ID => answer(raw::read_basic(message)).map(gdl90::Message::Basic),
+        LONG_ID => answer(raw::read_long(message)).map(gdl90::Message::Long),
         _ => panic!("no kind has the id {id}"),
-    }
+    };
+    value.map(to_reference)
 }
 
-/// The answer in the reference's terms. The value of a refusal is zero, and so
-/// is a number with a mark, which the way there and back shows.
-fn answer<Raw, Value>(answer: RawRead<Raw>) -> Result<Value, u8>
+/// The answer as a typed value. The value of a refusal is zero, and so is a
+/// number with a mark, which the way there and back shows.
+fn answer<Raw, Value>(answer: raw::Read<Raw>) -> Result<Value, u8>
 where
     Raw: Copy + Debug + Default + PartialEq + From<Value>,
-    Value: Copy + From<Raw>,
+    Value: Copy + TryFrom<Raw>,
+    Value::Error: Debug,
 {
     if answer.number != 0 {
         assert_eq!(answer.value, Raw::default(), "value of a refusal");
         return Err(answer.number);
     }
-    let value = Value::from(answer.value);
+    let value = Value::try_from(answer.value).expect("marks that there are");
     assert_eq!(answer.value, Raw::from(value), "a number with a mark");
     Ok(value)
+}
+
+/// The same of an uplink, whose payload is no part of the answer.
+fn uplink_answer(message: &[u8]) -> Result<gdl90::Uplink<'_>, u8> {
+    let answer = raw::read_uplink(message);
+    if answer.number != 0 {
+        assert_eq!(answer.value, raw::Uplink::default(), "value of a refusal");
+        return Err(answer.number);
+    }
+    let uplink = gdl90::Uplink {
+        reception: (answer.value.reception_mark != NONE).then_some(answer.value.reception),
+        payload: &message[4..],
+    };
+    assert_eq!(answer.value, uplink.into(), "a number with a mark");
+    Ok(uplink)
 }
 
 /// By the function that looks for the kind, and by the kind's own.
 fn assert_readings_agree(message: &[u8]) {
     let expected = reference::messages::read(message);
-    assert_eq!(read(message), expected, "{message:02X?}");
+    let value = gdl90::Message::read(message);
+    let answer = value.map(to_reference).map_err(Error::number);
+    assert_eq!(answer, expected, "{message:02X?}");
     for (id, _) in LENGTHS {
         if message.first() == Some(&id) {
             assert_eq!(read_as(id, message), expected, "{message:02X?}");
@@ -70,7 +89,7 @@ fn assert_readings_agree(message: &[u8]) {
 
 /// What a function of writing answers in this room, with the bytes written.
 /// Nothing else changes, and a refusal changes nothing (01).
-fn written(room: usize, mut write: impl FnMut(&mut [u8]) -> RawWritten) -> Result<Vec<u8>, u8> {
+fn written(room: usize, mut write: impl FnMut(&mut [u8]) -> WriteAnswer) -> Result<Vec<u8>, u8> {
     // A byte that was not written differs between the two fills.
     let [first, second] = [0xA5, 0x5A].map(|fill| {
         let mut lent = vec![fill; GUARD + room + GUARD];
@@ -81,55 +100,53 @@ fn written(room: usize, mut write: impl FnMut(&mut [u8]) -> RawWritten) -> Resul
         let mut others = lent[..GUARD].iter().chain(&lent[end..]);
         assert!(others.all(|&byte| byte == fill), "{answer:?}: {lent:02X?}");
         assert!(answer.number == 0 || answer.length == 0, "{answer:?}");
-        answer.result().map(|_| lent[GUARD..end].to_vec())
+        let result = answer.result().map_err(Error::number);
+        result.map(|_| lent[GUARD..end].to_vec())
     });
     assert_eq!(first, second);
     first
 }
 
+/// By the kind's own function, and by the one that looks for it.
 fn assert_writings_agree(value: &Message, room: usize) {
     let expected = match reference::messages::write(value) {
         Ok(message) if message.len() > room => Err(OUTPUT_TOO_SHORT),
         answer => answer,
     };
-    let answer = written(room, |out| write_raw(value, out));
+    let value = from_reference(value);
+    let answer = written(room, |out| write_as(value, out));
+    assert_eq!(answer, expected, "in {room} bytes: {value:?}");
+    let answer = written(room, |out| match value.write(out) {
+        Ok(length) => WriteAnswer { number: 0, length },
+        Err(error) => WriteAnswer {
+            number: error.number(),
+            length: 0,
+        },
+    });
     assert_eq!(answer, expected, "in {room} bytes: {value:?}");
 }
 
-fn layout<T>() -> (usize, usize) {
-    (size_of::<T>(), align_of::<T>())
-}
-
-/// As a C compiler lays them out.
-#[test]
-fn sizes_and_alignments() {
-    assert_eq!(layout::<RawHeartbeat>(), (12, 4));
-    assert_eq!(layout::<RawInitialization>(), (2, 1));
-    assert_eq!(layout::<RawUplink>(), (8, 4));
-    assert_eq!(layout::<RawHeight>(), (4, 2));
-    assert_eq!(layout::<RawReport>(), (52, 4));
-    assert_eq!(layout::<RawGeometric>(), (6, 2));
-    assert_eq!(layout::<RawBasic>(), (28, 4));
-    assert_eq!(layout::<RawLong>(), (44, 4));
-
-    assert_eq!(layout::<RawRead<RawHeartbeat>>(), (16, 4));
-    assert_eq!(layout::<RawRead<RawInitialization>>(), (3, 1));
-    assert_eq!(layout::<RawRead<RawUplink>>(), (12, 4));
-    assert_eq!(layout::<RawRead<RawHeight>>(), (6, 2));
-    assert_eq!(layout::<RawRead<RawReport>>(), (56, 4));
-    assert_eq!(layout::<RawRead<RawGeometric>>(), (8, 2));
-    assert_eq!(layout::<RawRead<RawBasic>>(), (32, 4));
-    assert_eq!(layout::<RawRead<RawLong>>(), (48, 4));
-
-    let (word, alignment) = layout::<usize>();
-    assert_eq!(layout::<RawWritten>(), (2 * word, alignment));
+fn write_as(value: gdl90::Message, out: &mut [u8]) -> WriteAnswer {
+    match value {
+        gdl90::Message::Heartbeat(heartbeat) => raw::write_heartbeat(heartbeat.into(), out),
+        gdl90::Message::Initialization(bytes) => raw::write_initialization(bytes.into(), out),
+        gdl90::Message::Uplink(uplink) => raw::write_uplink(uplink.into(), uplink.payload, out),
+        gdl90::Message::Height(height) => raw::write_height(height.into(), out),
+        gdl90::Message::Ownship(report) => raw::write_ownship(report.into(), out),
+        gdl90::Message::Geometric(geometric) => raw::write_geometric(geometric.into(), out),
+        gdl90::Message::Traffic(report) => raw::write_traffic(report.into(), out),
+        gdl90::Message::Basic(basic) => raw::write_basic(basic.into(), out),
+        gdl90::Message::Long(long) => raw::write_long(long.into(), out),
+        other => panic!("no function writes {other:?}"),
+    }
 }
 
 #[test]
 fn examples_of_001_agree() {
     for message in [&HEARTBEAT[..], &SALEM] {
         assert_readings_agree(message);
-        assert_writings_agree(&read(message).unwrap(), message.len());
+        let value = reference::messages::read(message).unwrap();
+        assert_writings_agree(&value, message.len());
     }
 }
 
@@ -253,7 +270,8 @@ fn every_height_and_merit_agrees() {
         assert_writings_agree(&Message::Height(height), ROOM);
         let geometric = GeometricAltitude {
             merit: Merit::Metres(number),
-            ..RawGeometric::default().into()
+            altitude: FiveFootSteps(0),
+            warning: false,
         };
         assert_writings_agree(&Message::Geometric(geometric), ROOM);
     }
@@ -261,7 +279,9 @@ fn every_height_and_merit_agrees() {
 
 #[test]
 fn every_number_in_a_heartbeat_agrees() {
-    let example: Heartbeat = read_heartbeat(&HEARTBEAT).value.into();
+    let Ok(Message::Heartbeat(example)) = reference::messages::read(&HEARTBEAT) else {
+        panic!("no heartbeat");
+    };
     for number in 0..=u16::MAX {
         for change in [
             |heartbeat: &mut Heartbeat, number| heartbeat.status_2 = number as u8,
@@ -277,7 +297,9 @@ fn every_number_in_a_heartbeat_agrees() {
 
 #[test]
 fn every_number_in_a_report_agrees() {
-    let example: Report = read_report(&SALEM).value.into();
+    let Ok(Message::Traffic(example)) = reference::messages::read(&SALEM) else {
+        panic!("no traffic");
+    };
     for number in 0..=u16::MAX {
         for change in [
             |report: &mut Report, number| report.alert = number as u8,
@@ -298,14 +320,14 @@ fn every_number_in_a_report_agrees() {
     }
 }
 
-type WriteReport = fn(RawReport, &mut [u8]) -> RawWritten;
+type WriteReport = fn(raw::Report, &mut [u8]) -> WriteAnswer;
 
-const REPORT_WRITERS: [WriteReport; 2] = [write_ownship, write_traffic];
+const REPORT_WRITERS: [WriteReport; 2] = [raw::write_ownship, raw::write_traffic];
 
 /// Writes every mark into the value; those up to `last` are the field's.
 fn assert_marks<Raw: Copy + Debug>(
     value: Raw,
-    write: impl Fn(Raw, &mut [u8]) -> RawWritten,
+    write: impl Fn(Raw, &mut [u8]) -> WriteAnswer,
     last: u8,
     set: fn(&mut Raw, u8),
 ) {
@@ -323,21 +345,27 @@ fn assert_marks<Raw: Copy + Debug>(
 
 #[test]
 fn unknown_marks_are_refused() {
-    let uplink = |value, out: &mut [u8]| write_uplink(value, &[0; PAYLOAD_LENGTH], out);
-    assert_marks(RawUplink::default(), uplink, NONE, |uplink, mark| {
+    let uplink = |value, out: &mut [u8]| raw::write_uplink(value, &[0; PAYLOAD_LENGTH], out);
+    assert_marks(raw::Uplink::default(), uplink, NONE, |uplink, mark| {
         uplink.reception_mark = mark
     });
-    assert_marks(RawBasic::default(), write_basic, NONE, |basic, mark| {
-        basic.reception_mark = mark
-    });
-    assert_marks(RawLong::default(), write_long, NONE, |long, mark| {
+    assert_marks(
+        raw::Basic::default(),
+        raw::write_basic,
+        NONE,
+        |basic, mark| basic.reception_mark = mark,
+    );
+    assert_marks(raw::Long::default(), raw::write_long, NONE, |long, mark| {
         long.reception_mark = mark
     });
-    assert_marks(RawHeight::default(), write_height, NONE, |height, mark| {
-        height.height_mark = mark
-    });
-    let geometric = RawGeometric::default();
-    assert_marks(geometric, write_geometric, OVER, |geometric, mark| {
+    assert_marks(
+        raw::Height::default(),
+        raw::write_height,
+        NONE,
+        |height, mark| height.height_mark = mark,
+    );
+    let geometric = raw::Geometric::default();
+    assert_marks(geometric, raw::write_geometric, OVER, |geometric, mark| {
         geometric.merit_mark = mark
     });
 }
@@ -345,9 +373,9 @@ fn unknown_marks_are_refused() {
 #[test]
 fn unknown_marks_of_a_report_are_refused() {
     // With integrity 0, so that there may be no position.
-    let report = RawReport {
+    let report = raw::Report {
         longitude: 1,
-        ..RawReport::default()
+        ..raw::Report::default()
     };
     for write in REPORT_WRITERS {
         assert_marks(report, write, NONE, |report, mark| {
@@ -367,15 +395,18 @@ fn unknown_marks_of_a_report_are_refused() {
 
 #[test]
 fn reserved_is_one_bit() {
-    assert_marks(RawHeartbeat::default(), write_heartbeat, 1, |value, bit| {
-        value.reserved = bit
-    });
+    assert_marks(
+        raw::Heartbeat::default(),
+        raw::write_heartbeat,
+        1,
+        |value, bit| value.reserved = bit,
+    );
 }
 
 /// The two values differ only in numbers with marks.
 fn assert_written_alike<Raw: Copy + Debug>(
     values: [Raw; 2],
-    write: impl Fn(Raw, &mut [u8]) -> RawWritten,
+    write: impl Fn(Raw, &mut [u8]) -> WriteAnswer,
 ) {
     let [first, second] = values.map(|value| written(ROOM, |out| write(value, out)));
     assert!(first.is_ok(), "{first:?}: {values:?}");
@@ -385,51 +416,51 @@ fn assert_written_alike<Raw: Copy + Debug>(
 #[test]
 fn numbers_with_marks_are_not_looked_at() {
     let receptions = [0, u32::MAX];
-    let uplinks = receptions.map(|reception| RawUplink {
+    let uplinks = receptions.map(|reception| raw::Uplink {
         reception_mark: NONE,
         reception,
     });
     assert_written_alike(uplinks, |value, out| {
-        write_uplink(value, &[0; PAYLOAD_LENGTH], out)
+        raw::write_uplink(value, &[0; PAYLOAD_LENGTH], out)
     });
-    let basics = receptions.map(|reception| RawBasic {
+    let basics = receptions.map(|reception| raw::Basic {
         reception_mark: NONE,
         reception,
-        ..RawBasic::default()
+        ..raw::Basic::default()
     });
-    assert_written_alike(basics, write_basic);
-    let longs = receptions.map(|reception| RawLong {
+    assert_written_alike(basics, raw::write_basic);
+    let longs = receptions.map(|reception| raw::Long {
         reception_mark: NONE,
         reception,
-        ..RawLong::default()
+        ..raw::Long::default()
     });
-    assert_written_alike(longs, write_long);
-    let heights = [0, i16::MIN].map(|height| RawHeight {
+    assert_written_alike(longs, raw::write_long);
+    let heights = [0, i16::MIN].map(|height| raw::Height {
         height_mark: NONE,
         height,
     });
-    assert_written_alike(heights, write_height);
+    assert_written_alike(heights, raw::write_height);
     for merit_mark in [NONE, OVER] {
-        let geometrics = [0, u16::MAX].map(|merit| RawGeometric {
+        let geometrics = [0, u16::MAX].map(|merit| raw::Geometric {
             merit_mark,
             merit,
-            ..RawGeometric::default()
+            ..raw::Geometric::default()
         });
-        assert_written_alike(geometrics, write_geometric);
+        assert_written_alike(geometrics, raw::write_geometric);
     }
 }
 
 #[test]
 fn numbers_with_marks_of_a_report_are_not_looked_at() {
     for (speed_mark, climb_mark) in [(NONE, NONE), (OVER, OVER), (OVER, BELOW)] {
-        let zeros = RawReport {
+        let zeros = raw::Report {
             position_mark: NONE,
             altitude_mark: NONE,
             speed_mark,
             climb_mark,
-            ..RawReport::default()
+            ..raw::Report::default()
         };
-        let others = RawReport {
+        let others = raw::Report {
             latitude: i32::MIN,
             longitude: i32::MAX,
             altitude: u16::MAX,
@@ -459,10 +490,10 @@ fn climbs_of_32_bits_are_refused() {
         i32::MIN,
         i32::MAX,
     ] {
-        let value = RawReport {
+        let value = raw::Report {
             longitude: 1,
             climb,
-            ..RawReport::default()
+            ..raw::Report::default()
         };
         for write in REPORT_WRITERS {
             let answer = written(ROOM, |out| write(value, out));
@@ -484,9 +515,12 @@ fn refusals_of_an_uplink_have_their_order() {
         (432, last, 0, OUTPUT_TOO_SHORT),
         (432, last, 435, OUTPUT_TOO_SHORT),
     ] {
-        let value = RawUplink::from(Some(reception));
+        let value = raw::Uplink {
+            reception_mark: NUMBER,
+            reception,
+        };
         let payload = vec![0; length];
-        let answer = written(room, |out| write_uplink(value, &payload, out));
+        let answer = written(room, |out| raw::write_uplink(value, &payload, out));
         assert_eq!(answer, Err(number), "{length}, {reception}, {room}");
     }
 }

@@ -1,9 +1,9 @@
 //! The proved library and the reference find and add the same frames.
 
 use std::hint::black_box;
-use std::mem::{align_of, size_of};
 
-use compare::uplink::{add, list, nth, RawFound, RawListed};
+use gdl90::raw::{add, list, nth, ListAnswer, NthAnswer};
+use gdl90::{add_information_frame, information_frame, information_frames, Error};
 use reference::messages::{OUT_OF_RANGE, PAYLOAD_LENGTH, WRONG_LENGTH};
 use reference::payloads::{damaged, samples_of_001, valid, whole};
 use reference::uplink::{self, FRAME_DATA_MAX, NO_ROOM, PAST_THE_DATA, VALID, VALID_AT};
@@ -14,32 +14,32 @@ const ROUNDS: usize = 20_000;
 const GUARD: usize = 16;
 
 /// The reference's answer in the shape of the C function's.
-fn listed(payload: &[u8]) -> RawListed {
+fn listed(payload: &[u8]) -> ListAnswer {
     match uplink::list(payload) {
-        Ok(frames) => RawListed {
+        Ok(frames) => ListAnswer {
             number: 0,
             count: frames.len(),
             end: uplink::end(&frames),
         },
-        Err(number) => RawListed {
+        Err(number) => ListAnswer {
             number,
-            ..RawListed::default()
+            ..ListAnswer::default()
         },
     }
 }
 
-fn found(payload: &[u8], n: usize) -> RawFound {
+fn found(payload: &[u8], n: usize) -> NthAnswer {
     match uplink::nth(payload, n) {
-        Ok(frame) => RawFound {
+        Ok(frame) => NthAnswer {
             number: 0,
-            frame_type: frame.frame_type,
+            kind: frame.frame_type,
             reserved: frame.reserved,
             start: frame.data.start,
             length: frame.data.len(),
         },
-        Err(number) => RawFound {
+        Err(number) => NthAnswer {
             number,
-            ..RawFound::default()
+            ..NthAnswer::default()
         },
     }
 }
@@ -52,6 +52,45 @@ fn assert_lists_agree(payload: &[u8]) {
         let frame = nth(payload, n);
         assert_eq!(frame, found(payload, n), "frame {n} of {payload:02X?}");
     }
+    assert_safe_lists_agree(payload);
+}
+
+/// Data are the very part of the payload, not a copy.
+fn assert_safe_lists_agree(payload: &[u8]) {
+    let (expected, frames) = match (uplink::list(payload), information_frames(payload)) {
+        (Ok(expected), Ok(frames)) => (expected, frames),
+        (expected, frames) => {
+            let number = frames.map(|_| ()).map_err(Error::number);
+            assert_eq!(number, expected.map(|_| ()), "{payload:02X?}");
+            return;
+        }
+    };
+    assert_eq!(frames.len(), expected.len());
+    assert_eq!(frames.clone().count(), expected.len());
+    for (n, (frame, expected)) in frames.zip(expected).enumerate() {
+        assert_eq!(frame.kind, expected.frame_type);
+        assert_eq!(frame.reserved, expected.reserved);
+        assert_eq!(
+            frame.data.as_ptr_range(),
+            payload[expected.data].as_ptr_range()
+        );
+        assert_eq!(information_frame(payload, n), Ok(frame));
+    }
+}
+
+/// Behind the last frame there is none, and an iterator counts down to it.
+#[test]
+fn safe_lists_end() {
+    let payload = &samples_of_001()[0];
+    let mut frames = information_frames(payload).unwrap();
+    for left in (0..7).rev() {
+        assert!(frames.next().is_some());
+        assert_eq!(frames.len(), left);
+    }
+    assert_eq!(frames.next(), None);
+    assert_eq!(frames.next(), None);
+    assert_eq!(information_frame(payload, 7), Err(Error::NoSuchFrame));
+    assert_eq!(information_frame(&[], 0), Err(Error::WrongLength));
 }
 
 /// Adds in lent memory with guards; a refusal changes nothing (01).
@@ -60,6 +99,10 @@ fn assert_adds_agree(payload: &mut Vec<u8>, frame_type: u8, data: &[u8]) -> u8 {
     let mut expected = lent.clone();
     let place = GUARD..GUARD + payload.len();
     let number = add(&mut lent[place.clone()], frame_type, data);
+    let mut safely = payload.clone();
+    let added = add_information_frame(&mut safely, frame_type, data);
+    assert_eq!(added.map_or_else(Error::number, |()| 0), number);
+    assert_eq!(safely, lent[place.clone()]);
     // The compiler may hold that a call leaves the guards as they are.
     let lent = black_box(lent);
     let expected_number = uplink::add(&mut expected[place.clone()], frame_type, data).err();
@@ -69,16 +112,6 @@ fn assert_adds_agree(payload: &mut Vec<u8>, frame_type: u8, data: &[u8]) -> u8 {
     assert!(number == 0 || lent[place.clone()] == payload[..], "{what}");
     payload.copy_from_slice(&lent[place]);
     number
-}
-
-/// As a C compiler lays them out.
-#[test]
-fn sizes_and_alignments() {
-    let (word, alignment) = (size_of::<usize>(), align_of::<usize>());
-    assert_eq!(size_of::<RawListed>(), 3 * word);
-    assert_eq!(align_of::<RawListed>(), alignment);
-    assert_eq!(size_of::<RawFound>(), 3 * word);
-    assert_eq!(align_of::<RawFound>(), alignment);
 }
 
 /// 001 §5.1.4 and §5.2.4: the frames are found, and adding them builds the same.
@@ -93,7 +126,7 @@ fn samples_of_001_agree() {
         for n in 0..list(&payload).count {
             let frame = nth(&payload, n);
             let data = &payload[frame.start..][..frame.length];
-            assert_eq!(assert_adds_agree(&mut built, frame.frame_type, data), 0);
+            assert_eq!(assert_adds_agree(&mut built, frame.kind, data), 0);
         }
         assert_eq!(built, payload);
     }

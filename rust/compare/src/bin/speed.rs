@@ -5,13 +5,12 @@
 use std::hint::black_box;
 use std::time::Instant;
 
-use compare::messages::{
-    read_heartbeat, read_report, write_heartbeat, write_traffic, RawHeartbeat, RawReport,
-};
+use gdl90::{raw, Message};
 use reference::collecting::Answer;
 use reference::framing::{Framed, MESSAGE_MAX};
 use reference::messages::{
-    put, Heartbeat, Report, HEARTBEAT_ID, NOT_LISTED, PAYLOAD_LENGTH, TRAFFIC_ID, WRONG_LENGTH,
+    self, put, Heartbeat, Report, HEARTBEAT_ID, LENGTHS, NOT_LISTED, PAYLOAD_LENGTH, TRAFFIC_ID,
+    UPLINK_ID, WRONG_LENGTH,
 };
 use reference::payloads;
 use reference::recording::speed_recording;
@@ -41,6 +40,9 @@ fn main() {
     measure_heartbeats(&whole_set(&mut random, &[HEARTBEAT_ID]));
     measure_traffic(&whole_set(&mut random, &[TRAFFIC_ID]));
     measure_payloads(&payload_set(&mut random));
+    let ids = LENGTHS.map(|(id, _)| id);
+    let others: Vec<u8> = ids.into_iter().filter(|&id| id != UPLINK_ID).collect();
+    measure_typed(&whole_set(&mut random, &others));
     measure_collect(&speed_recording());
 }
 
@@ -107,6 +109,16 @@ fn reference_write_traffic(report: &Report, out: &mut [u8]) -> Result<usize, u8>
 }
 
 #[inline(never)]
+fn reference_read(message: &[u8]) -> Result<messages::Message, u8> {
+    messages::read(message)
+}
+
+#[inline(never)]
+fn reference_write(message: &messages::Message, out: &mut [u8]) -> Result<usize, u8> {
+    messages::write_into(message, out)
+}
+
+#[inline(never)]
 fn reference_list(payload: &[u8]) -> Result<(usize, usize), u8> {
     reference::uplink::count(payload)
 }
@@ -125,7 +137,7 @@ fn measure_check_sequence(name: &str, messages: &[Vec<u8>]) {
     measure(
         name,
         messages,
-        |message| compare::check_sequence(message),
+        |message| gdl90::check_sequence(message),
         |message| reference_check_sequence(message),
     );
 }
@@ -135,7 +147,7 @@ fn measure_frame(name: &str, messages: &[Vec<u8>]) {
     measure(
         name,
         messages,
-        |message| compare::frame(message, black_box(&mut proved)),
+        |message| raw::frame(message, black_box(&mut proved)),
         |message| reference_frame(message, black_box(&mut expected)),
     );
 }
@@ -144,16 +156,19 @@ fn measure_heartbeats(messages: &[Vec<u8>]) {
     measure(
         "read_heartbeat",
         messages,
-        |message| read_heartbeat(message),
+        |message| raw::read_heartbeat(message),
         |message| reference_read_heartbeat(message),
     );
-    let raws = messages.iter().map(|message| read_heartbeat(message).value);
-    let values: Vec<(RawHeartbeat, Heartbeat)> = raws.map(|raw| (raw, raw.into())).collect();
+    let both = messages.iter().map(|message| {
+        let heartbeat = reference_read_heartbeat(message).expect("a whole heartbeat");
+        (raw::read_heartbeat(message).value, heartbeat)
+    });
+    let values: Vec<(raw::Heartbeat, Heartbeat)> = both.collect();
     let (mut proved, mut expected) = ([0; ROOM], [0; ROOM]);
     measure(
         "write_heartbeat",
         &values,
-        |(raw, _)| write_heartbeat(*raw, black_box(&mut proved)),
+        |(raw, _)| raw::write_heartbeat(*raw, black_box(&mut proved)),
         |(_, heartbeat)| reference_write_heartbeat(heartbeat, black_box(&mut expected)),
     );
 }
@@ -162,17 +177,44 @@ fn measure_traffic(messages: &[Vec<u8>]) {
     measure(
         "read_traffic",
         messages,
-        |message| read_report(message),
+        |message| raw::read_report(message),
         |message| reference_read_traffic(message),
     );
-    let raws = messages.iter().map(|message| read_report(message).value);
-    let values: Vec<(RawReport, Report)> = raws.map(|raw| (raw, raw.into())).collect();
+    let both = messages.iter().map(|message| {
+        let report = reference_read_traffic(message).expect("a whole report");
+        (raw::read_report(message).value, report)
+    });
+    let values: Vec<(raw::Report, Report)> = both.collect();
     let (mut proved, mut expected) = ([0; ROOM], [0; ROOM]);
     measure(
         "write_traffic",
         &values,
-        |(raw, _)| write_traffic(*raw, black_box(&mut proved)),
+        |(raw, _)| raw::write_traffic(*raw, black_box(&mut proved)),
         |(_, report)| reference_write_traffic(report, black_box(&mut expected)),
+    );
+}
+
+/// Typed values of whatever kind, the kind looked for. No uplinks: the reference
+/// copies their payload.
+fn measure_typed(messages: &[Vec<u8>]) {
+    let messages: Vec<&[u8]> = messages.iter().map(|message| &message[..]).collect();
+    measure(
+        "read_typed",
+        &messages,
+        |message| Message::read(message),
+        |message| reference_read(message),
+    );
+    let both = messages.iter().map(|message| {
+        let value = reference_read(message).expect("a whole message");
+        (Message::read(message).expect("a whole message"), value)
+    });
+    let values: Vec<(Message, messages::Message)> = both.collect();
+    let (mut proved, mut expected) = ([0; ROOM], [0; ROOM]);
+    measure(
+        "write_typed",
+        &values,
+        |(message, _)| message.write(black_box(&mut proved)),
+        |(_, message)| reference_write(message, black_box(&mut expected)),
     );
 }
 
@@ -182,15 +224,15 @@ fn measure_payloads(payloads: &[Vec<u8>]) {
     measure(
         "list",
         payloads,
-        |payload| compare::uplink::list(payload),
+        |payload| raw::list(payload),
         |payload| reference_list(payload),
     );
-    let last = |payload: &[u8]| compare::uplink::list(payload).count - 1;
+    let last = |payload: &[u8]| raw::list(payload).count - 1;
     let asked: Vec<(&[u8], usize)> = payloads.iter().map(|p| (&p[..], last(p))).collect();
     measure(
         "nth_last",
         &asked,
-        |(payload, n)| compare::uplink::nth(payload, *n),
+        |(payload, n)| raw::nth(payload, *n),
         |(payload, n)| reference_nth(payload, *n),
     );
     let (mut proved, mut expected) = ([0; PAYLOAD_LENGTH], [0; PAYLOAD_LENGTH]);
@@ -199,7 +241,7 @@ fn measure_payloads(payloads: &[Vec<u8>]) {
         payloads,
         |payload| {
             proved.copy_from_slice(payload);
-            compare::uplink::add(black_box(&mut proved), 0, &ADDED)
+            raw::add(black_box(&mut proved), 0, &ADDED)
         },
         |payload| {
             expected.copy_from_slice(payload);
@@ -239,26 +281,22 @@ struct Tally {
 }
 
 impl Tally {
-    fn add(&mut self, answer: Answer) {
-        match answer {
-            Answer::None => {}
-            Answer::Message(message) => {
-                self.answers += 1;
-                self.message_bytes += message.len();
-            }
-            Answer::Refused(_) => self.answers += 1,
-        }
+    fn add(&mut self, message: Option<&[u8]>) {
+        self.answers += 1;
+        self.message_bytes += message.map_or(0, <[u8]>::len);
     }
 }
 
 #[inline(never)]
 fn rattle_collect(mut stream: &[u8]) -> Tally {
     let mut tally = Tally::default();
-    let mut collector = compare::Collector::new();
+    let mut collector = gdl90::Collector::new();
     while !stream.is_empty() {
         let fed = collector.feed(stream);
         stream = &stream[fed.taken..];
-        tally.add(fed.answer);
+        if let Some(answer) = fed.answer {
+            tally.add(answer.ok());
+        }
     }
     tally
 }
@@ -268,7 +306,11 @@ fn reference_collect(stream: &[u8]) -> Tally {
     let mut tally = Tally::default();
     let mut collector = reference::collecting::Collector::new();
     for &byte in stream {
-        tally.add(collector.push(byte));
+        match collector.push(byte) {
+            Answer::None => {}
+            Answer::Message(message) => tally.add(Some(message)),
+            Answer::Refused(_) => tally.add(None),
+        }
     }
     tally
 }

@@ -1,0 +1,198 @@
+//! Collecting frames from a stream, 001 §2.2.
+
+use std::fmt;
+use std::iter::FusedIterator;
+use std::ops::Deref;
+
+use crate::error::{accepted, Error};
+use crate::raw::{self, FeedControl, MESSAGE_MAX, ROOM};
+use crate::Message;
+
+/// Collects messages from a stream of bytes that comes in slices of any length.
+///
+/// An answer comes with each flag that closes a frame: the message, or why the
+/// frame was refused ([`Error::BadEscape`] to [`Error::CheckSequence`]). A flag
+/// closes what came before it and opens the next frame. Bytes before the first
+/// flag are ignored, and nothing between two flags is no answer. A frame may
+/// start in one slice and end in a later one.
+///
+/// ```
+/// use gdl90::Collector;
+///
+/// let mut collector = Collector::new();
+/// let stream = gdl90::framed(&[2, 0, 1])?;
+/// let (first, second) = stream.split_at(3);
+/// assert_eq!(collector.answers(first).count(), 0);
+/// let message = collector.answers(second).next().unwrap()?;
+/// assert_eq!(*message, [2, 0, 1]);
+/// # Ok::<(), gdl90::Error>(())
+/// ```
+#[derive(Clone)]
+pub struct Collector {
+    control: FeedControl,
+    room: [u8; ROOM],
+    message: [u8; MESSAGE_MAX],
+}
+
+/// What [`Collector::feed`] did.
+#[derive(Clone, Copy, Debug, PartialEq, Eq)]
+pub struct Fed<'a> {
+    /// Bytes taken; the next call goes on behind them.
+    pub taken: usize,
+    /// The message of the frame that the last of them closed, lent until the
+    /// next call, or why it was refused. `None` if no frame was closed: then all
+    /// bytes were taken.
+    pub answer: Option<Result<&'a [u8], Error>>,
+}
+
+impl Collector {
+    /// A collector before the first byte of a stream.
+    pub fn new() -> Self {
+        Self {
+            control: FeedControl::default(),
+            room: [0; ROOM],
+            message: [0; MESSAGE_MAX],
+        }
+    }
+
+    /// Takes bytes until one closes a frame or there are no more. The message is
+    /// lent, not copied.
+    ///
+    /// ```
+    /// let mut collector = gdl90::Collector::new();
+    /// let stream = gdl90::framed(&[2, 0, 1])?;
+    /// let mut rest = &stream[..];
+    /// while !rest.is_empty() {
+    ///     let fed = collector.feed(rest);
+    ///     rest = &rest[fed.taken..];
+    ///     if let Some(answer) = fed.answer {
+    ///         assert_eq!(answer?, [2, 0, 1]);
+    ///     }
+    /// }
+    /// # Ok::<(), gdl90::Error>(())
+    /// ```
+    #[inline]
+    pub fn feed(&mut self, bytes: &[u8]) -> Fed<'_> {
+        let fed = raw::feed(self.control, &mut self.room, &mut self.message, bytes);
+        self.control = fed.control;
+        let message = &self.message[..fed.length];
+        let answer = fed.answered.then(|| accepted(fed.number, message));
+        Fed {
+            taken: fed.taken,
+            answer,
+        }
+    }
+
+    /// Takes the bytes as the iterator is gone through, and gives each answer as
+    /// its frame is closed. Bytes of a frame that is still open are kept for the
+    /// next slice.
+    ///
+    /// An iterator that is dropped before its end leaves bytes untaken, which
+    /// [`Answers::rest`] has.
+    #[inline]
+    pub fn answers<'c, 'b>(&'c mut self, bytes: &'b [u8]) -> Answers<'c, 'b> {
+        Answers {
+            collector: self,
+            rest: bytes,
+        }
+    }
+}
+
+impl Default for Collector {
+    fn default() -> Self {
+        Self::new()
+    }
+}
+
+impl fmt::Debug for Collector {
+    fn fmt(&self, f: &mut fmt::Formatter<'_>) -> fmt::Result {
+        f.debug_struct("Collector")
+            .field("control", &self.control)
+            .finish_non_exhaustive()
+    }
+}
+
+/// Iterator over the answers to a slice, made by [`Collector::answers`].
+#[derive(Debug)]
+#[must_use = "bytes are taken only as the iterator is gone through"]
+pub struct Answers<'c, 'b> {
+    collector: &'c mut Collector,
+    rest: &'b [u8],
+}
+
+impl<'b> Answers<'_, 'b> {
+    /// The bytes that are not yet taken.
+    pub fn rest(&self) -> &'b [u8] {
+        self.rest
+    }
+}
+
+impl Iterator for Answers<'_, '_> {
+    type Item = Result<Received, Error>;
+
+    #[inline]
+    fn next(&mut self) -> Option<Self::Item> {
+        let fed = self.collector.feed(self.rest);
+        self.rest = &self.rest[fed.taken..];
+        let length = match fed.answer? {
+            Ok(message) => message.len(),
+            Err(error) => return Some(Err(error)),
+        };
+        Some(Ok(Received {
+            bytes: self.collector.message,
+            length,
+        }))
+    }
+}
+
+// Fed no bytes, collecting gives no answer.
+impl FusedIterator for Answers<'_, '_> {}
+
+/// A message as it was collected, its check sequence taken off: a slice of bytes,
+/// kept without the heap.
+#[derive(Clone, Copy)]
+pub struct Received {
+    bytes: [u8; MESSAGE_MAX],
+    length: usize,
+}
+
+impl Received {
+    /// The message as a typed value; see [`Message::read`].
+    ///
+    /// # Errors
+    ///
+    /// Those of [`Message::read`].
+    #[inline]
+    pub fn message(&self) -> Result<Message<'_>, Error> {
+        Message::read(self)
+    }
+}
+
+impl Deref for Received {
+    type Target = [u8];
+
+    #[inline]
+    fn deref(&self) -> &[u8] {
+        &self.bytes[..self.length]
+    }
+}
+
+impl AsRef<[u8]> for Received {
+    fn as_ref(&self) -> &[u8] {
+        self
+    }
+}
+
+impl PartialEq for Received {
+    fn eq(&self, other: &Self) -> bool {
+        **self == **other
+    }
+}
+
+impl Eq for Received {}
+
+impl fmt::Debug for Received {
+    fn fmt(&self, f: &mut fmt::Formatter<'_>) -> fmt::Result {
+        f.debug_tuple("Received").field(&&**self).finish()
+    }
+}

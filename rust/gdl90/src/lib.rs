@@ -1,0 +1,67 @@
+//! GDL 90 bytes, as receivers send them to a moving map: frames, collecting from
+//! a stream, the nine kinds of message, uplink payloads.
+//!
+//! The work is done by `libgdl90.a`, which is proved to do what its contracts say
+//! for every input; this crate gives it types. It needs nothing but the standard
+//! library. Its build script makes the archive with `rt staticlib gdl90` where it
+//! is not there yet; GDL90_LIB_DIR names another folder that has it.
+//!
+//! ```
+//! use gdl90::Collector;
+//!
+//! let mut collector = Collector::new();
+//! // The heartbeat of 001 §2.2.4, then the same with a bit flipped.
+//! let stream = [
+//!     0x7E, 0x00, 0x81, 0x41, 0xDB, 0xD0, 0x08, 0x02, 0xB3, 0x8B, 0x7E,
+//!     0x7E, 0x00, 0x81, 0x41, 0xDB, 0xD0, 0x08, 0x02, 0xB3, 0x8A, 0x7E,
+//! ];
+//! let mut lines = Vec::new();
+//! for answer in collector.answers(&stream) {
+//!     match answer {
+//!         Ok(received) => lines.push(received.message()?.to_string()),
+//!         Err(error) => lines.push(format!("refused with {}: {error}", error.number())),
+//!     }
+//! }
+//! assert_eq!(lines, [
+//!     "heartbeat at 14:51:07 UTC, status 0x81 0x41, received in a second: 1 uplinks, 2 basic and long",
+//!     "refused with 5: the check sequence differs",
+//! ]);
+//! # Ok::<(), gdl90::Error>(())
+//! ```
+//!
+//! - [`Collector`] takes a stream in slices and answers with messages.
+//! - [`Message`] reads and writes a message as a typed value; [`frame`] and
+//!   [`framed`] make a frame of its bytes.
+//! - [`information_frames`] and [`add_information_frame`] go into an uplink's
+//!   payload.
+//! - [`Error`] says why something was refused. Nothing panics, whatever the bytes
+//!   and values, if archive and crate are of one version.
+//!
+//! 001 is the public GDL 90 specification (560-1058-00 Rev A), 01 the scope paper
+//! of the library, which gives each refusal its number.
+
+#![warn(missing_docs)]
+#![deny(unsafe_op_in_unsafe_fn)]
+#![deny(unsafe_code)]
+
+mod collecting;
+mod error;
+mod framing;
+mod message;
+#[allow(unsafe_code)]
+pub mod raw;
+mod units;
+mod uplink;
+
+pub use collecting::{Answers, Collector, Fed, Received};
+pub use error::Error;
+pub use framing::{check_sequence, frame, framed, FRAME_MAX, MESSAGE_MAX};
+pub use message::{
+    BasicPassThrough, CallSign, Climb, GeometricAltitude, Heartbeat, HeightAboveTerrain,
+    Initialization, LongPassThrough, Merit, Message, PassThrough, Report, Speed, TrackKind, Uplink,
+};
+pub use units::{Degrees, GeometricSteps, Position, PressureSteps, TerrainFeet};
+pub use uplink::{
+    add_information_frame, information_frame, information_frames, InformationFrame,
+    InformationFrames, PAYLOAD_LENGTH,
+};

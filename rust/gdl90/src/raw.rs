@@ -1,0 +1,192 @@
+//! The C functions as they are: the structs of include/gdl90.h, and each
+//! function with slices for pointers and lengths.
+//!
+//! Every function takes every input and ends. A refusal leaves lent memory as it
+//! was; only [`feed`] goes on, as the room is part of its state. The rest of this
+//! crate is made of these functions, and most programs need none of them.
+
+mod values;
+
+pub use values::{
+    id, Basic, FeedAnswer, FeedControl, FrameAnswer, Geometric, Heartbeat, Height, Initialization,
+    ListAnswer, Long, NthAnswer, PassThrough, Read, Report, Uplink, WriteAnswer, BELOW, NONE,
+    NUMBER, OVER,
+};
+
+/// The longest message, an uplink (01).
+pub const MESSAGE_MAX: usize = 436;
+/// Bytes that collecting keeps: the longest message and its check sequence.
+pub const ROOM: usize = MESSAGE_MAX + 2;
+
+extern "C" {
+    fn gdl90_check_sequence(message: *const u8, message_len: usize) -> u16;
+    fn gdl90_frame(
+        message: *const u8,
+        message_len: usize,
+        out: *mut u8,
+        out_len: usize,
+    ) -> FrameAnswer;
+    fn gdl90_feed(
+        control: FeedControl,
+        room: *mut [u8; ROOM],
+        message: *mut [u8; MESSAGE_MAX],
+        bytes: *const u8,
+        bytes_len: usize,
+    ) -> FeedAnswer;
+    fn gdl90_write_uplink(
+        value: Uplink,
+        payload: *const u8,
+        payload_len: usize,
+        out: *mut u8,
+        out_len: usize,
+    ) -> WriteAnswer;
+    fn gdl90_list(payload: *const u8, payload_len: usize) -> ListAnswer;
+    fn gdl90_nth(payload: *const u8, payload_len: usize, n: usize) -> NthAnswer;
+    fn gdl90_add(
+        payload: *mut u8,
+        payload_len: usize,
+        kind: u8,
+        data: *const u8,
+        data_len: usize,
+    ) -> u8;
+}
+
+/// The frame check sequence of a message.
+#[inline]
+pub fn check_sequence(message: &[u8]) -> u16 {
+    // SAFETY: pointer and length are those of one live slice, which is only read
+    // and not kept.
+    unsafe { gdl90_check_sequence(message.as_ptr(), message.len()) }
+}
+
+/// A message as a frame: 10, then 9.
+#[inline]
+pub fn frame(message: &[u8], out: &mut [u8]) -> FrameAnswer {
+    // SAFETY: each pointer and length are those of one live slice. `out` is
+    // borrowed mutably, so it does not overlap `message`; neither is kept.
+    unsafe { gdl90_frame(message.as_ptr(), message.len(), out.as_mut_ptr(), out.len()) }
+}
+
+/// Takes bytes until one closes a frame or there are no more. No state is
+/// unsafe: one that cannot be is taken as the fresh one (01).
+#[inline]
+pub fn feed(
+    control: FeedControl,
+    room: &mut [u8; ROOM],
+    message: &mut [u8; MESSAGE_MAX],
+    bytes: &[u8],
+) -> FeedAnswer {
+    // SAFETY: `room` and `message` are live arrays of the lengths that the
+    // function takes, `bytes` is one live slice. The two are borrowed mutably, so
+    // none overlaps another; none is kept.
+    unsafe { gdl90_feed(control, room, message, bytes.as_ptr(), bytes.len()) }
+}
+
+/// Declares C functions that read one kind of message each, and wraps them.
+macro_rules! readers {
+    ($($(#[$doc:meta])* $name:ident: $function:ident -> $value:ty;)*) => {
+        extern "C" {
+            $(fn $function(message: *const u8, message_len: usize) -> Read<$value>;)*
+        }
+        $(
+            $(#[$doc])*
+            #[inline]
+            pub fn $name(message: &[u8]) -> Read<$value> {
+                // SAFETY: pointer and length are those of one live slice, which
+                // is only read and not kept.
+                unsafe { $function(message.as_ptr(), message.len()) }
+            }
+        )*
+    };
+}
+
+readers! {
+    /// A heartbeat's numbers: 6, 7, 8.
+    read_heartbeat: gdl90_read_heartbeat -> Heartbeat;
+    /// An initialization's bytes: 6, 7.
+    read_initialization: gdl90_read_initialization -> Initialization;
+    /// An uplink's numbers: 6, 7, 8. The payload is the message from its fifth
+    /// byte on.
+    read_uplink: gdl90_read_uplink -> Uplink;
+    /// The numbers of a height above terrain: 6, 7.
+    read_height: gdl90_read_height -> Height;
+    /// An ownship's or a traffic report's numbers: 6, 7, 8.
+    read_report: gdl90_read_report -> Report;
+    /// A geometric altitude's numbers: 6, 7.
+    read_geometric: gdl90_read_geometric -> Geometric;
+    /// A basic pass-through's numbers: 6, 7, 8.
+    read_basic: gdl90_read_basic -> Basic;
+    /// A long pass-through's numbers: 6, 7, 8.
+    read_long: gdl90_read_long -> Long;
+}
+
+/// Declares C functions that write one kind of message each, and wraps them.
+macro_rules! writers {
+    ($($(#[$doc:meta])* $name:ident: $function:ident($value:ty);)*) => {
+        extern "C" {
+            $(fn $function(value: $value, out: *mut u8, out_len: usize) -> WriteAnswer;)*
+        }
+        $(
+            $(#[$doc])*
+            #[inline]
+            pub fn $name(value: $value, out: &mut [u8]) -> WriteAnswer {
+                // SAFETY: pointer and length are those of one live slice, which
+                // is borrowed mutably and not kept.
+                unsafe { $function(value, out.as_mut_ptr(), out.len()) }
+            }
+        )*
+    };
+}
+
+writers! {
+    /// A heartbeat's message: 8, 9.
+    write_heartbeat: gdl90_write_heartbeat(Heartbeat);
+    /// An initialization's message: 9.
+    write_initialization: gdl90_write_initialization(Initialization);
+    /// The message of a height above terrain: 8, 9.
+    write_height: gdl90_write_height(Height);
+    /// An ownship's message: 8, 9.
+    write_ownship: gdl90_write_ownship(Report);
+    /// A geometric altitude's message: 8, 9.
+    write_geometric: gdl90_write_geometric(Geometric);
+    /// A traffic report's message: 8, 9.
+    write_traffic: gdl90_write_traffic(Report);
+    /// A basic pass-through's message: 8, 9.
+    write_basic: gdl90_write_basic(Basic);
+    /// A long pass-through's message: 8, 9.
+    write_long: gdl90_write_long(Long);
+}
+
+/// An uplink's message: 7 for a payload not of 432 bytes, 8, 9.
+#[inline]
+pub fn write_uplink(value: Uplink, payload: &[u8], out: &mut [u8]) -> WriteAnswer {
+    let (from, to) = (payload.as_ptr(), out.as_mut_ptr());
+    // SAFETY: each pointer and length are those of one live slice. `out` is
+    // borrowed mutably, so it does not overlap `payload`; neither is kept.
+    unsafe { gdl90_write_uplink(value, from, payload.len(), to, out.len()) }
+}
+
+/// How many information frames a payload has: 7, 11, 12.
+#[inline]
+pub fn list(payload: &[u8]) -> ListAnswer {
+    // SAFETY: pointer and length are those of one live slice, which is only read
+    // and not kept.
+    unsafe { gdl90_list(payload.as_ptr(), payload.len()) }
+}
+
+/// Information frame n, numbered from 0: 7, 11, 12, 13.
+#[inline]
+pub fn nth(payload: &[u8], n: usize) -> NthAnswer {
+    // SAFETY: as in `list`.
+    unsafe { gdl90_nth(payload.as_ptr(), payload.len(), n) }
+}
+
+/// Adds an information frame behind the others; answers 01's number: 7, 11, 12,
+/// 8, 9.
+#[inline]
+pub fn add(payload: &mut [u8], kind: u8, data: &[u8]) -> u8 {
+    let (to, from) = (payload.as_mut_ptr(), data.as_ptr());
+    // SAFETY: each pointer and length are those of one live slice. `payload` is
+    // borrowed mutably, so it does not overlap `data`; neither is kept.
+    unsafe { gdl90_add(to, payload.len(), kind, from, data.len()) }
+}

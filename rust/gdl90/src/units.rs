@@ -1,0 +1,151 @@
+//! Altitudes in three units, each with its own way to feet, and degrees.
+
+use std::fmt;
+
+use crate::Error;
+
+/// Pressure altitude in steps of 25 feet from -1,000 feet on.
+///
+/// Can be written: 0 to 4,094.
+#[derive(Clone, Copy, Debug, PartialEq, Eq, Hash, PartialOrd, Ord)]
+pub struct PressureSteps(pub u16);
+
+/// Geometric altitude in steps of 5 feet.
+#[derive(Clone, Copy, Debug, PartialEq, Eq, Hash, PartialOrd, Ord)]
+pub struct GeometricSteps(pub i16);
+
+/// Height above terrain in feet.
+///
+/// Can be written: -32,767 to 32,767.
+#[derive(Clone, Copy, Debug, PartialEq, Eq, Hash, PartialOrd, Ord)]
+pub struct TerrainFeet(pub i16);
+
+impl PressureSteps {
+    /// In feet, for every number of steps.
+    ///
+    /// ```
+    /// assert_eq!(gdl90::PressureSteps(0).feet(), -1_000);
+    /// assert_eq!(gdl90::PressureSteps(0xFFE).feet(), 101_350);
+    /// ```
+    #[inline]
+    pub fn feet(self) -> i32 {
+        25 * i32::from(self.0) - 1_000
+    }
+}
+
+impl GeometricSteps {
+    /// In feet, for every number of steps.
+    ///
+    /// ```
+    /// assert_eq!(gdl90::GeometricSteps(-200).feet(), -1_000);
+    /// ```
+    #[inline]
+    pub fn feet(self) -> i32 {
+        5 * i32::from(self.0)
+    }
+}
+
+impl TerrainFeet {
+    /// In feet.
+    ///
+    /// ```
+    /// assert_eq!(gdl90::TerrainFeet(256).feet(), 256);
+    /// ```
+    #[inline]
+    pub fn feet(self) -> i32 {
+        i32::from(self.0)
+    }
+}
+
+impl fmt::Display for PressureSteps {
+    fn fmt(&self, f: &mut fmt::Formatter<'_>) -> fmt::Result {
+        write!(f, "{} feet", self.feet())
+    }
+}
+
+impl fmt::Display for GeometricSteps {
+    fn fmt(&self, f: &mut fmt::Formatter<'_>) -> fmt::Result {
+        write!(f, "{} feet", self.feet())
+    }
+}
+
+impl fmt::Display for TerrainFeet {
+    fn fmt(&self, f: &mut fmt::Formatter<'_>) -> fmt::Result {
+        write!(f, "{} feet", self.feet())
+    }
+}
+
+/// Latitude and longitude in steps of 180 / 2^23 degrees.
+///
+/// Can be written: a latitude of -4,194,304 to 4,194,304, a longitude of
+/// -8,388,608 to 8,388,607.
+#[derive(Clone, Copy, Debug, PartialEq, Eq, Hash)]
+pub struct Position {
+    /// North positive.
+    pub latitude: i32,
+    /// East positive.
+    pub longitude: i32,
+}
+
+/// Latitude and longitude in degrees.
+#[derive(Clone, Copy, Debug, PartialEq, PartialOrd)]
+pub struct Degrees {
+    /// North positive.
+    pub latitude: f64,
+    /// East positive.
+    pub longitude: f64,
+}
+
+impl Position {
+    /// In degrees, without any rounding.
+    ///
+    /// # Errors
+    ///
+    /// [`Error::OutOfRange`] if 24 bits do not hold one of the step numbers.
+    ///
+    /// ```
+    /// let position = gdl90::Position { latitude: 1 << 21, longitude: -(1 << 23) };
+    /// let degrees = position.degrees()?;
+    /// assert_eq!((degrees.latitude, degrees.longitude), (45.0, -180.0));
+    /// # Ok::<(), gdl90::Error>(())
+    /// ```
+    #[inline]
+    pub fn degrees(self) -> Result<Degrees, Error> {
+        Ok(Degrees {
+            latitude: degrees(self.latitude)?,
+            longitude: degrees(self.longitude)?,
+        })
+    }
+}
+
+fn degrees(steps: i32) -> Result<f64, Error> {
+    match steps {
+        -0x80_0000..=0x7F_FFFF => Ok(f64::from(steps) * 180.0 / 8_388_608.0),
+        _ => Err(Error::OutOfRange),
+    }
+}
+
+/// In degrees; in steps if there are no degrees.
+impl fmt::Display for Position {
+    fn fmt(&self, f: &mut fmt::Formatter<'_>) -> fmt::Result {
+        match self.degrees() {
+            Ok(degrees) => degrees.fmt(f),
+            Err(error) => write!(f, "steps {} and {}: {error}", self.latitude, self.longitude),
+        }
+    }
+}
+
+/// To five decimals, which tell neighbouring steps apart.
+impl fmt::Display for Degrees {
+    fn fmt(&self, f: &mut fmt::Formatter<'_>) -> fmt::Result {
+        let (latitude, longitude) = (self.latitude, self.longitude);
+        let north = if latitude < 0.0 { "south" } else { "north" };
+        let east = if longitude < 0.0 { "west" } else { "east" };
+        write!(
+            f,
+            "{:.5} degrees {north}, {:.5} degrees {east}",
+            latitude.abs(),
+            longitude.abs()
+        )
+    }
+}
