@@ -101,7 +101,7 @@ impl fmt::Display for Error {
             Self::FrameTooShort => "the frame has only one or two bytes",
             Self::CheckSequence => "the check sequence differs",
             Self::UnknownId => "the message is empty, or of an unknown kind",
-            Self::WrongLength => "the length is not that of the kind of message",
+            Self::WrongLength => "the message or the payload has a wrong length",
             Self::OutOfRange => "a field is outside its range",
             Self::NoRoom => "there is too little room",
             Self::MessageLength => "a message to be framed has 1 to 436 bytes",

@@ -23,7 +23,8 @@
 //!     }
 //! }
 //! assert_eq!(lines, [
-//!     "heartbeat at 14:51:07 UTC, status 0x81 0x41, received in a second: 1 uplinks, 2 basic and long",
+//!     "heartbeat at 14:51:07 UTC, status 0x81 0x41, \
+//!      received in the last second: 1 uplinks, 2 basic and long",
 //!     "refused with 5: the check sequence differs",
 //! ]);
 //! # Ok::<(), gdl90::Error>(())

@@ -63,7 +63,7 @@ impl fmt::Display for Heartbeat {
         write!(
             f,
             "heartbeat at {hours:02}:{minutes:02}:{seconds:02} UTC, status 0x{:02X} 0x{:02X}, \
-             received in a second: {} uplinks, {} basic and long",
+             received in the last second: {} uplinks, {} basic and long",
             self.status_1, self.status_2, self.uplinks, self.basic_and_long
         )
     }
