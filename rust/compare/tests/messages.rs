@@ -157,7 +157,9 @@ fn generated_messages_agree() {
         for _ in 0..ROUNDS {
             let value = samples::value(&mut random, id);
             assert_writings_agree(&value, length);
-            assert_readings_agree(&reference::messages::write(&value).unwrap());
+            let message = reference::messages::write(&value).unwrap();
+            assert_readings_agree(&message);
+            assert_eq!(from_reference(&value).to_vec(), Ok(message));
         }
     }
 }
