@@ -1,12 +1,12 @@
 /* Prints how a C compiler lays out the structs of include/gdl90.h, for other languages' declarations to be held against:
      struct NAME size alignment
      NAME FIELD offset size sort
-   The sort is signed, bool or other. */
+   The sort is signed, bool, double or other. */
 #include "gdl90.h"
 
 #include <stdio.h>
 
-#define SORT(field) _Generic((field), int16_t: "signed", int32_t: "signed", bool: "bool", default: "other")
+#define SORT(field) _Generic((field), int16_t: "signed", int32_t: "signed", bool: "bool", double: "double", default: "other")
 
 #define STRUCT(s) printf("struct %s %lu %lu\n", #s, (unsigned long)sizeof(struct s), (unsigned long)_Alignof(struct s))
 
@@ -154,11 +154,20 @@ static void print_payloads(void)
     FIELD(gdl90_nth_answer, length);
 }
 
+static void print_units(void)
+{
+    STRUCT(gdl90_degrees_answer);
+    FIELD(gdl90_degrees_answer, number);
+    FIELD(gdl90_degrees_answer, latitude);
+    FIELD(gdl90_degrees_answer, longitude);
+}
+
 int main(void)
 {
     print_frames();
     print_messages();
     print_answers();
     print_payloads();
+    print_units();
     return 0;
 }

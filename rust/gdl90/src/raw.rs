@@ -8,9 +8,9 @@
 mod values;
 
 pub use values::{
-    id, Basic, FeedAnswer, FeedControl, FrameAnswer, Geometric, Heartbeat, Height, Initialization,
-    ListAnswer, Long, NthAnswer, PassThrough, Read, Report, Uplink, WriteAnswer, BELOW, NONE,
-    NUMBER, OVER,
+    id, Basic, DegreesAnswer, FeedAnswer, FeedControl, FrameAnswer, Geometric, Heartbeat, Height,
+    Initialization, ListAnswer, Long, NthAnswer, PassThrough, Read, Report, Uplink, WriteAnswer,
+    BELOW, NONE, NUMBER, OVER,
 };
 
 /// The longest message, an uplink (01).
@@ -49,6 +49,10 @@ extern "C" {
         data: *const u8,
         data_len: usize,
     ) -> u8;
+    fn gdl90_pressure_feet(steps: u16) -> i32;
+    fn gdl90_geometric_feet(steps: i16) -> i32;
+    fn gdl90_terrain_feet(feet: i16) -> i32;
+    fn gdl90_degrees(latitude: i32, longitude: i32) -> DegreesAnswer;
 }
 
 /// The frame check sequence of a message.
@@ -189,4 +193,32 @@ pub fn add(payload: &mut [u8], kind: u8, data: &[u8]) -> u8 {
     // SAFETY: each pointer and length are those of one live slice. `payload` is
     // borrowed mutably, so it does not overlap `data`; neither is kept.
     unsafe { gdl90_add(to, payload.len(), kind, from, data.len()) }
+}
+
+/// Feet of a report's altitude, 25 feet a step from -1,000 feet on.
+#[inline]
+pub fn pressure_feet(steps: u16) -> i32 {
+    // SAFETY: a number by value; no memory is lent.
+    unsafe { gdl90_pressure_feet(steps) }
+}
+
+/// Feet of a geometric altitude, 5 feet a step.
+#[inline]
+pub fn geometric_feet(steps: i16) -> i32 {
+    // SAFETY: as in `pressure_feet`.
+    unsafe { gdl90_geometric_feet(steps) }
+}
+
+/// Feet of a height above terrain.
+#[inline]
+pub fn terrain_feet(feet: i16) -> i32 {
+    // SAFETY: as in `pressure_feet`.
+    unsafe { gdl90_terrain_feet(feet) }
+}
+
+/// A position in degrees: 8 for a number of steps that 24 bits do not hold.
+#[inline]
+pub fn degrees(latitude: i32, longitude: i32) -> DegreesAnswer {
+    // SAFETY: numbers by value; no memory is lent.
+    unsafe { gdl90_degrees(latitude, longitude) }
 }

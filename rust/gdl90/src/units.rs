@@ -2,7 +2,8 @@
 
 use std::fmt;
 
-use crate::Error;
+use crate::error::{accepted, Error};
+use crate::raw;
 
 /// Pressure altitude in steps of 25 feet from -1,000 feet on.
 ///
@@ -29,7 +30,7 @@ impl PressureSteps {
     /// ```
     #[inline]
     pub fn feet(self) -> i32 {
-        25 * i32::from(self.0) - 1_000
+        raw::pressure_feet(self.0)
     }
 }
 
@@ -41,7 +42,7 @@ impl GeometricSteps {
     /// ```
     #[inline]
     pub fn feet(self) -> i32 {
-        5 * i32::from(self.0)
+        raw::geometric_feet(self.0)
     }
 }
 
@@ -53,7 +54,7 @@ impl TerrainFeet {
     /// ```
     #[inline]
     pub fn feet(self) -> i32 {
-        i32::from(self.0)
+        raw::terrain_feet(self.0)
     }
 }
 
@@ -111,17 +112,14 @@ impl Position {
     /// ```
     #[inline]
     pub fn degrees(self) -> Result<Degrees, Error> {
-        Ok(Degrees {
-            latitude: degrees(self.latitude)?,
-            longitude: degrees(self.longitude)?,
-        })
-    }
-}
-
-fn degrees(steps: i32) -> Result<f64, Error> {
-    match steps {
-        -0x80_0000..=0x7F_FFFF => Ok(f64::from(steps) * 180.0 / 8_388_608.0),
-        _ => Err(Error::OutOfRange),
+        let degrees = raw::degrees(self.latitude, self.longitude);
+        accepted(
+            degrees.number,
+            Degrees {
+                latitude: degrees.latitude,
+                longitude: degrees.longitude,
+            },
+        )
     }
 }
 

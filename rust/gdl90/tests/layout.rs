@@ -42,6 +42,7 @@ fn size_and_sort<S, F>(_: fn(&S) -> &F) -> (usize, &'static str) {
     let sort = match type_name::<F>() {
         "i16" | "i32" => "signed",
         "bool" => "bool",
+        "f64" => "double",
         _ => "other",
     };
     (size_of::<F>(), sort)
@@ -114,9 +115,15 @@ fn payloads() -> Vec<String> {
     }
 }
 
+fn units() -> Vec<String> {
+    layout! {
+        gdl90_degrees_answer: DegreesAnswer { number, latitude, longitude }
+    }
+}
+
 #[test]
 fn layouts_agree() {
-    let lines = [frames(), messages(), answers(), payloads()].concat();
+    let lines = [frames(), messages(), answers(), payloads(), units()].concat();
     assert_eq!(lines, printed_by_c().lines().collect::<Vec<_>>());
 }
 

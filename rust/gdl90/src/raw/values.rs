@@ -203,6 +203,16 @@ pub struct NthAnswer {
     pub length: usize,
 }
 
+/// Answer of degrees: 01's number, and latitude and longitude, 0 and 0 with a
+/// refusal.
+#[repr(C)]
+#[derive(Clone, Copy, Debug, PartialEq, Default)]
+pub struct DegreesAnswer {
+    pub number: u8,
+    pub latitude: f64,
+    pub longitude: f64,
+}
+
 impl FrameAnswer {
     /// The bytes written.
     #[inline]
