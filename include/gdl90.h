@@ -1,7 +1,8 @@
 /* GDL 90 bytes: frames, collecting, messages, uplink payloads, units. Link with libgdl90.a (`rt staticlib gdl90`).
 
-   Every function takes every input, ends, keeps no pointer, and touches nothing but the memory it is given. A pointer and a length
-   stand for bytes; the pointer is never null, also where the length is 0, and memory to be written overlaps no other argument.
+   Every function takes every input, ends, keeps nothing, and touches nothing but the memory it is given, so any thread may call it.
+   A pointer and a length stand for bytes; the pointer is never null, also where the length is 0, and memory to be written overlaps
+   no other argument. A bool holds 0 or 1.
 
    `number` in an answer is that of the scope paper's table:
      0  done                        5  check sequence             10  message not of 1 to 436 bytes
@@ -9,8 +10,9 @@
      2  escape before the flag      7  length                     12  a frame's length over 422
      3  more than 438 bytes         8  a field outside its range  13  no frame with that number
      4  1 or 2 bytes                9  output too short
-   With any number but 0 every other field of the answer is 0, and memory lent for output is as it was. gdl90_feed alone goes on: its
-   answer always has the state and the bytes taken, and the room is part of the state. */
+   Of several that apply, the one named first beside a function is given. 12 never is: such a frame is refused with 11 before.
+   With 0 only the bytes written change. With any other number every other field of the answer is 0, and memory lent for output is
+   as it was. gdl90_feed alone goes on: its answer always has the state and the bytes taken, and the room is part of the state. */
 #ifndef GDL90_H
 #define GDL90_H
 
@@ -22,73 +24,83 @@
 extern "C" {
 #endif
 
+/* Lengths in bytes. */
+enum gdl90_length {
+    GDL90_LONGEST_MESSAGE = 436, /* id included, without the check sequence */
+    GDL90_LONGEST_FRAME = 878,
+    GDL90_ROOM = 438,   /* what collecting needs: the longest message and its check sequence */
+    GDL90_PAYLOAD = 432 /* of an uplink, from the fifth byte of its message on */
+};
+
 /* ---- frames */
 
-/* The frame check sequence of a message. */
+/* The frame check sequence of a message, of any length. A frame has its low byte first. */
 uint16_t gdl90_check_sequence(const uint8_t *message, size_t message_len);
 
 struct gdl90_frame_answer {
-    uint8_t number; /* 0, 9, 10 */
+    uint8_t number; /* 10, 9, 0 */
     size_t length;  /* bytes written */
 };
 
-/* A message of 1 to 436 bytes as a frame: flag, message and check sequence with escapes, flag. 878 bytes are enough for any. */
+/* A message of 1 to 436 bytes as a frame: flag, message and check sequence with escapes, flag. 9 exactly when the output is shorter
+   than this frame. */
 struct gdl90_frame_answer gdl90_frame(const uint8_t *message, size_t message_len, uint8_t *out, size_t out_len);
 
-/* ---- collecting frames from a stream. Keep the control, the room and the message from one call to the next. */
+/* ---- collecting frames from a stream. Control and room are the state: keep both, unchanged, from one call to the next. */
 
 struct gdl90_feed_control { /* all zero: the fresh state; the room is then zero too */
-    size_t count;
-    uint8_t phase;
+    size_t count;           /* bytes in the room, 0 to 438 */
+    uint8_t phase;          /* 0 to 4; a state with another phase or count is taken as the fresh one */
 };
 
 struct gdl90_feed_answer {
     struct gdl90_feed_control control; /* to be given to the next call */
     size_t taken;                      /* bytes taken: the next call goes on behind them */
-    bool answered;                     /* the last of them closed a frame */
-    uint8_t number;                    /* 0 to 5, where answered */
-    size_t length;                     /* of the message, where the number is 0 */
+    bool answered;                     /* the last of them closed a frame; else number and length are 0 */
+    uint8_t number;                    /* 0 to 5 */
+    size_t length;                     /* of the message, 1 to 436, where answered with 0 */
 };
 
-/* Takes bytes until one closes a frame or there are no more. An accepted message stands in `message`, with zeros behind it. */
-struct gdl90_feed_answer gdl90_feed(struct gdl90_feed_control control, uint8_t room[438], uint8_t message[436],
-                                    const uint8_t *bytes, size_t bytes_len);
+/* Takes bytes until one closes a frame or there are no more: call it again with what is left. Where answered with 0 all of
+   `message` is written, the message and zeros behind it; else it is as it was. */
+struct gdl90_feed_answer gdl90_feed(struct gdl90_feed_control control, uint8_t room[GDL90_ROOM],
+                                    uint8_t message[GDL90_LONGEST_MESSAGE], const uint8_t *bytes, size_t bytes_len);
 
 /* ---- messages */
 
-/* The first byte of a message of each kind. */
+/* The first byte of a message of each kind, and how many bytes it has. */
 enum gdl90_id {
-    GDL90_HEARTBEAT = 0,
-    GDL90_INITIALIZATION = 2,
-    GDL90_UPLINK = 7,
-    GDL90_HEIGHT = 9,
-    GDL90_OWNSHIP = 10,
-    GDL90_GEOMETRIC = 11,
-    GDL90_TRAFFIC = 20,
-    GDL90_BASIC = 30,
-    GDL90_LONG = 31
+    GDL90_HEARTBEAT = 0,      /* 7 */
+    GDL90_INITIALIZATION = 2, /* 3 */
+    GDL90_UPLINK = 7,         /* 436 */
+    GDL90_HEIGHT = 9,         /* 3 */
+    GDL90_OWNSHIP = 10,       /* 28 */
+    GDL90_GEOMETRIC = 11,     /* 5 */
+    GDL90_TRAFFIC = 20,       /* 28 */
+    GDL90_BASIC = 30,         /* 22 */
+    GDL90_LONG = 31           /* 38 */
 };
 
-/* A mark says what the field behind it is. With a mark the field is 0 when read, and is not looked at when written. A field has only
-   the marks named beside it; any other number is refused with 8 when written. */
+/* A mark says what the field behind it is. With a mark other than 0 the field is 0 when read, and is not looked at when written. A
+   field has only the marks named beside it; any other is refused with 8 when written, as is a field outside the range beside it. */
 enum gdl90_mark {
-    GDL90_NUMBER = 0, /* the field is a number */
+    GDL90_NUMBER = 0, /* the field is a number; every field with a mark has this one */
     GDL90_NONE = 1,
-    GDL90_OVER = 2, /* of a climb: more than 509 steps up */
-    GDL90_BELOW = 3 /* of a climb: more than 509 steps down */
+    GDL90_OVER = 2, /* a speed of 4,094 knots or more, a merit over 32,766 metres, a climb of more than 509 steps */
+    GDL90_BELOW = 3 /* a descent of more than 509 steps */
 };
 
 struct gdl90_heartbeat {
     uint8_t status1;
-    uint8_t status2; /* bits 6 to 0 */
-    uint32_t time;   /* seconds since 0000Z, 0 to 86,399 */
-    uint8_t uplinks; /* 0 to 31 */
-    uint8_t reserved; /* 0 or 1 */
-    uint16_t basic_and_long; /* 0 to 1,023 */
+    uint8_t status2;         /* bits 6 to 0, 0 to 127 */
+    uint32_t time;           /* seconds since 0000Z, 0 to 86,399 */
+    uint8_t uplinks;         /* received in the last second, 0 to 31 */
+    uint8_t reserved;        /* 0 or 1 */
+    uint16_t basic_and_long; /* received in the last second, 0 to 1,023 */
 };
 
 struct gdl90_initialization {
-    uint8_t first;
+    uint8_t first; /* configuration byte 1 */
     uint8_t second;
 };
 
@@ -99,14 +111,14 @@ struct gdl90_uplink {
 
 struct gdl90_height {
     uint8_t height_mark; /* none */
-    int16_t height;      /* feet above terrain */
+    int16_t height;      /* feet above terrain, -32,767 to 32,767 */
 };
 
 struct gdl90_report { /* an ownship's or of traffic */
-    uint8_t alert;        /* 0 to 15 */
-    uint8_t address_type; /* 0 to 15 */
-    uint32_t address;     /* 24 bits */
-    uint8_t position_mark; /* none */
+    uint8_t alert;         /* 0 to 15 */
+    uint8_t address_type;  /* 0 to 15 */
+    uint32_t address;      /* 0 to 16,777,215 */
+    uint8_t position_mark; /* of both; none, with integrity 0 only; with integrity 0 a position 0, 0 is none */
     int32_t latitude;      /* steps of 180 / 2^23 degrees, north positive, -4,194,304 to 4,194,304 */
     int32_t longitude;     /* likewise, east positive, -8,388,608 to 8,388,607 */
     uint8_t altitude_mark; /* none */
@@ -114,24 +126,24 @@ struct gdl90_report { /* an ownship's or of traffic */
     uint8_t track_kind;    /* 0 not valid, 1 true track, 2 magnetic heading, 3 true heading */
     bool extrapolated;
     bool airborne;
-    uint8_t integrity; /* 0 to 11 */
-    uint8_t accuracy;  /* 0 to 11 */
-    uint8_t speed_mark; /* none, over */
-    uint16_t speed;     /* knots, 0 to 4,093 */
-    uint8_t climb_mark; /* none, over, below */
-    int32_t climb;      /* steps of 64 feet per minute, -509 to 509 */
-    uint8_t track;      /* steps of 360 / 256 degrees */
-    uint8_t emitter;
-    uint8_t call_sign[8];
-    uint8_t priority; /* 0 to 15 */
-    uint8_t spare;    /* 0 to 15 */
+    uint8_t integrity;    /* 0 to 11 */
+    uint8_t accuracy;     /* 0 to 11 */
+    uint8_t speed_mark;   /* none, over */
+    uint16_t speed;       /* knots, 0 to 4,093 */
+    uint8_t climb_mark;   /* none, over, below */
+    int32_t climb;        /* steps of 64 feet per minute, up positive, -509 to 509 */
+    uint8_t track;        /* steps of 360 / 256 degrees, also where the kind is 0 */
+    uint8_t emitter;      /* category */
+    uint8_t call_sign[8]; /* as it came, any bytes; no zero byte behind it */
+    uint8_t priority;     /* 0 to 15 */
+    uint8_t spare;        /* 0 to 15 */
 };
 
 struct gdl90_geometric {
     int16_t altitude; /* steps of 5 feet */
     bool warning;
     uint8_t merit_mark; /* none, over */
-    uint16_t merit;     /* metres, 0 to 32,766 */
+    uint16_t merit;     /* metres, 0 to 32,766 but not 32,494, whose code is that of over */
 };
 
 struct gdl90_basic {
@@ -179,8 +191,8 @@ struct gdl90_long_read {
     struct gdl90_long pass_through;
 };
 
-/* A message of one kind: 6 if it is empty or its first byte is another kind's id, then 7, then 8. The payload of an uplink is the
-   432 bytes from message + 4 on. */
+/* A message of one kind: 6 if it is empty or its first byte is not the kind's id, 7 if its length is not the kind's, 8 for a field
+   outside its range, 0. The payload of an uplink is the 432 bytes from message + 4 on. */
 struct gdl90_heartbeat_read gdl90_read_heartbeat(const uint8_t *message, size_t message_len);
 struct gdl90_initialization_read gdl90_read_initialization(const uint8_t *message, size_t message_len);
 struct gdl90_uplink_read gdl90_read_uplink(const uint8_t *message, size_t message_len);
@@ -191,11 +203,11 @@ struct gdl90_basic_read gdl90_read_basic(const uint8_t *message, size_t message_
 struct gdl90_long_read gdl90_read_long(const uint8_t *message, size_t message_len);
 
 struct gdl90_write_answer {
-    uint8_t number; /* 0, 7 for an uplink's payload not of 432 bytes, 8, 9 */
+    uint8_t number; /* 7 for an uplink's payload not of 432 bytes, 8, 9, 0 */
     size_t length;  /* bytes written */
 };
 
-/* The message of a value. 436 bytes are enough for any. */
+/* The message of a value: as many bytes as its kind has. */
 struct gdl90_write_answer gdl90_write_heartbeat(struct gdl90_heartbeat heartbeat, uint8_t *out, size_t out_len);
 struct gdl90_write_answer gdl90_write_initialization(struct gdl90_initialization initialization, uint8_t *out, size_t out_len);
 struct gdl90_write_answer gdl90_write_uplink(struct gdl90_uplink uplink, const uint8_t *payload, size_t payload_len, uint8_t *out,
@@ -210,36 +222,38 @@ struct gdl90_write_answer gdl90_write_long(struct gdl90_long pass_through, uint8
 /* ---- the information frames of an uplink payload, 432 bytes */
 
 struct gdl90_list_answer {
-    uint8_t number; /* 0, 7, 11, 12 */
-    size_t count;
-    size_t end; /* the byte of the application data, which are payload + 8, at which the list ends */
+    uint8_t number; /* 7, 11, 0 */
+    size_t count;   /* 0 to 141 */
+    size_t end;     /* where the list ends, counted from payload + 8, the start of the 424 bytes of application data */
 };
 
 struct gdl90_nth_answer {
-    uint8_t number; /* 0, 7, 11, 12, 13 */
-    uint8_t kind;   /* the frame's type */
-    uint8_t reserved;
-    size_t start; /* the frame's data are payload + start */
-    size_t length;
+    uint8_t number;   /* 7, 11, 13, 0 */
+    uint8_t kind;     /* the frame's type, 0 to 15 */
+    uint8_t reserved; /* 0 to 7 */
+    size_t start;     /* the frame's data are payload + start, without its header */
+    size_t length;    /* of the data, 1 to 422 */
 };
 
+/* How many frames there are; none where the payload's header says that its application data are not valid. */
 struct gdl90_list_answer gdl90_list(const uint8_t *payload, size_t payload_len);
 
 /* Frame n, numbered from 0. */
 struct gdl90_nth_answer gdl90_nth(const uint8_t *payload, size_t payload_len, size_t n);
 
-/* One frame more at the list's end, of a type up to 15 and 1 to 422 bytes of data: 0, 7, 11, 12, 8, 9. */
+/* One frame more at the list's end, of a type up to 15 and with 1 to 422 bytes of data; the application data are then valid, and
+   zero behind it. Answers 7, 11, 8 for another type or length, 9 if there is no room for it, 0. */
 uint8_t gdl90_add(uint8_t *payload, size_t payload_len, uint8_t kind, const uint8_t *data, size_t data_len);
 
 /* ---- units */
 
 /* Feet, each from its own unit, for every value. A field with a mark is no number of steps. */
-int32_t gdl90_pressure_feet(uint16_t steps);  /* of a report's altitude, 25 feet a step from -1,000 feet on */
-int32_t gdl90_geometric_feet(int16_t steps);  /* of a geometric altitude, 5 feet a step */
-int32_t gdl90_terrain_feet(int16_t feet);     /* of a height above terrain */
+int32_t gdl90_pressure_feet(uint16_t steps); /* of a report's altitude, 25 feet a step from -1,000 feet on */
+int32_t gdl90_geometric_feet(int16_t steps); /* of a geometric altitude, 5 feet a step */
+int32_t gdl90_terrain_feet(int16_t feet);    /* of a height above terrain */
 
 struct gdl90_degrees_answer {
-    uint8_t number; /* 0, 8 */
+    uint8_t number; /* 8, 0 */
     double latitude;
     double longitude;
 };
