@@ -23,12 +23,12 @@ void check(const char *file, int line, const char *what, double got, double want
 
 #define CHECK(got, want) check(__FILE__, __LINE__, #got, (double)(got), (double)(want))
 
-/* A field is looked at through a pointer to the type that the library gives it, so that a header with another width or sign does not
-   compile, also where no value shows the difference. */
-#define CHECK_AS(type, got, want)                                            \
-    do {                                                                     \
-        const type *field_ = &(got);                                         \
-        check(__FILE__, __LINE__, #got, (double)*field_, (double)(want));    \
+/* A field is looked at through a pointer to the type that the library gives it: a header with another width or sign does not compile,
+   also where no value shows the difference. */
+#define CHECK_AS(type, got, want)                                         \
+    do {                                                                  \
+        const type *field_ = &(got);                                      \
+        check(__FILE__, __LINE__, #got, (double)*field_, (double)(want)); \
     } while (0)
 #define CHECK_U8(got, want) CHECK_AS(uint8_t, got, want)
 #define CHECK_U16(got, want) CHECK_AS(uint16_t, got, want)
@@ -43,8 +43,8 @@ void check_bytes(const char *file, int line, const char *what, const uint8_t *go
 
 #define CHECK_BYTES(got, want, length) check_bytes(__FILE__, __LINE__, #got, got, want, length)
 
-/* Memory to lend, on the heap, with guard bytes before it and `behind` of them behind it. With none behind it valgrind sees a byte too
-   far, read or written; with some the guards see one written, and where. It is never null, also where the length is 0. */
+/* Memory to lend, on the heap, with guard bytes before it and `behind` of them behind it. With none behind it valgrind sees a byte
+   too far, read or written; with some the guards see one written, and where. It is never null, also where the length is 0. */
 struct lent {
     uint8_t *bytes;
     size_t length;

@@ -1,5 +1,5 @@
-/* Every function of gdl90.h, called from C: values that the scope paper (01) and the specification (001) give, each refusal, the memory
-   around what is lent, and each field of each struct. Nothing that is expected here comes from the library.
+/* Every function of gdl90.h, called from C: values that the scope paper (01) and the specification (001) give, each refusal, the
+   memory around what is lent, and each field of each struct. Nothing that is expected here comes from the library.
    All .c files of this folder make one program:
      cd tests && cc -std=c99 -I../include *.c ../target/staticlib/libgdl90.a -o ../target/entry_points && ../target/entry_points */
 #include "check.h"
@@ -7,8 +7,8 @@
 unsigned long checks_passed, checks_failed;
 int case_line;
 
-/* ---- the functions' types, from the library's side: a header that says otherwise does not compile, also where no value shows it, as
-   with a length of 32 bits */
+/* ---- the functions' types, from the library's side: a header that says otherwise does not compile, also where no value shows it,
+   as with a length of 32 bits */
 
 #ifdef __cplusplus
 extern "C" {
@@ -175,6 +175,36 @@ static void check_constants(void)
     CHECK(GDL90_BELOW, 3);
 }
 
+/* Nothing stands in a struct but its fields, each at the next place that its type allows. */
+static void check_sizes(void)
+{
+    const size_t word = sizeof(size_t);
+
+    CHECK(sizeof(struct gdl90_frame_answer), 2 * word);
+    CHECK(sizeof(struct gdl90_feed_control), 2 * word);
+    CHECK(sizeof(struct gdl90_feed_answer), 5 * word);
+    CHECK(sizeof(struct gdl90_heartbeat), 12);
+    CHECK(sizeof(struct gdl90_heartbeat_read), 16);
+    CHECK(sizeof(struct gdl90_initialization), 2);
+    CHECK(sizeof(struct gdl90_initialization_read), 3);
+    CHECK(sizeof(struct gdl90_uplink), 8);
+    CHECK(sizeof(struct gdl90_uplink_read), 12);
+    CHECK(sizeof(struct gdl90_height), 4);
+    CHECK(sizeof(struct gdl90_height_read), 6);
+    CHECK(sizeof(struct gdl90_report), 52);
+    CHECK(sizeof(struct gdl90_report_read), 56);
+    CHECK(sizeof(struct gdl90_geometric), 6);
+    CHECK(sizeof(struct gdl90_geometric_read), 8);
+    CHECK(sizeof(struct gdl90_basic), 28);
+    CHECK(sizeof(struct gdl90_basic_read), 32);
+    CHECK(sizeof(struct gdl90_long), 44);
+    CHECK(sizeof(struct gdl90_long_read), 48);
+    CHECK(sizeof(struct gdl90_write_answer), 2 * word);
+    CHECK(sizeof(struct gdl90_list_answer), 3 * word);
+    CHECK(sizeof(struct gdl90_nth_answer), 3 * word);
+    CHECK(sizeof(struct gdl90_degrees_answer), 24);
+}
+
 /* 01's value 9, 001 §3.5.1.4, §3.7 and §3.8, and the ends of each width: feet are for every value, codes of marks too. */
 static void check_feet(void)
 {
@@ -231,6 +261,7 @@ static void check_degrees(void)
 int main(void)
 {
     check_constants();
+    check_sizes();
     check_feet();
     check_degrees();
     check_frames();

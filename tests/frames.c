@@ -153,7 +153,7 @@ static void goes_on(struct stream *s, const uint8_t *bytes, size_t length, size_
     CHECK_BYTES(s->message.bytes, s->message_want, 436);
 }
 
-/* Feeds bytes of which the one before `taken` closes a frame; behind it the state is that of one flag just seen, its room zero (01). */
+/* Feeds bytes of which the one before `taken` closes a frame; the state is then that of one flag just seen, its room zero (01). */
 static void closes(struct stream *s, const uint8_t *bytes, size_t length, size_t taken, uint8_t number, const uint8_t *message,
                    size_t message_len)
 {

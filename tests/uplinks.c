@@ -195,7 +195,7 @@ static void add(uint8_t *payload, size_t length, uint8_t type, const uint8_t *da
     TAKE_BACK(input, data, data_len);
 }
 
-/* What is added stands at the list's end, reserved bits 0, with zeros behind it; the valid bit is set, and all before stays (01). */
+/* The frame stands at the list's end, reserved bits 0, with zeros behind it; the valid bit is set, and all before stays (01). */
 static void check_adding(void)
 {
     uint8_t data[1000], payload[433], want[433];
@@ -282,6 +282,11 @@ static void check_not_added(void)
     make(want, VALID, "0080 A1 FF80");
     CASE(add(payload, 432, 16, data, 0, 11, want));
     CASE(add(payload, 432, 1, data, 1, 11, want));
+    CASE(add(payload, 431, 1, data, 1, 7, want));
+    make(payload, 0, "0080 A1"); /* the valid bit is not set either */
+    make(want, 0, "0080 A1");
+    CASE(add(payload, 432, 16, data, 1, 8, want));
+    CASE(add(payload, 432, 1, data, 423, 8, want));
     CASE(add(payload, 431, 1, data, 1, 7, want));
 }
 
