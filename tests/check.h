@@ -23,8 +23,8 @@ void check(const char *file, int line, const char *what, double got, double want
 
 #define CHECK(got, want) check(__FILE__, __LINE__, #got, (double)(got), (double)(want))
 
-/* A field is looked at through a pointer to the type that the library gives it: a header with another width or sign does not compile,
-   also where no value shows the difference. */
+/* A field is looked at through a pointer to the type that the library gives it: a header with another width or sign does not
+   compile, also where no value shows the difference. */
 #define CHECK_AS(type, got, want)                                         \
     do {                                                                  \
         const type *field_ = &(got);                                      \

@@ -175,34 +175,50 @@ static void check_constants(void)
     CHECK(GDL90_BELOW, 3);
 }
 
-/* Nothing stands in a struct but its fields, each at the next place that its type allows. */
+/* As many fields as the library has, each at the next place that its type allows. A header with one more does not compile: -Wextra
+   misses its initializer. */
 static void check_sizes(void)
 {
     const size_t word = sizeof(size_t);
+    const struct gdl90_frame_answer frame = {0, 0};
+    const struct gdl90_feed_answer feed = {{0, 0}, 0, false, 0, 0};
+    const struct gdl90_heartbeat_read heartbeat = {0, {0, 0, 0, 0, 0, 0}};
+    const struct gdl90_initialization_read initialization = {0, {0, 0}};
+    const struct gdl90_uplink_read uplink = {0, {0, 0}};
+    const struct gdl90_height_read height = {0, {0, 0}};
+    const struct gdl90_report_read report = {
+        0, {0, 0, 0, 0, 0, 0, 0, 0, 0, false, false, 0, 0, 0, 0, 0, 0, 0, 0, {0}, 0, 0}};
+    const struct gdl90_geometric_read geometric = {0, {0, false, 0, 0}};
+    const struct gdl90_basic_read basic = {0, {0, 0, {0}}};
+    const struct gdl90_long_read pass_through = {0, {0, 0, {0}}};
+    const struct gdl90_write_answer write = {0, 0};
+    const struct gdl90_list_answer list = {0, 0, 0};
+    const struct gdl90_nth_answer nth = {0, 0, 0, 0, 0};
+    const struct gdl90_degrees_answer degrees = {0, 0, 0};
 
-    CHECK(sizeof(struct gdl90_frame_answer), 2 * word);
-    CHECK(sizeof(struct gdl90_feed_control), 2 * word);
-    CHECK(sizeof(struct gdl90_feed_answer), 5 * word);
-    CHECK(sizeof(struct gdl90_heartbeat), 12);
-    CHECK(sizeof(struct gdl90_heartbeat_read), 16);
-    CHECK(sizeof(struct gdl90_initialization), 2);
-    CHECK(sizeof(struct gdl90_initialization_read), 3);
-    CHECK(sizeof(struct gdl90_uplink), 8);
-    CHECK(sizeof(struct gdl90_uplink_read), 12);
-    CHECK(sizeof(struct gdl90_height), 4);
-    CHECK(sizeof(struct gdl90_height_read), 6);
-    CHECK(sizeof(struct gdl90_report), 52);
-    CHECK(sizeof(struct gdl90_report_read), 56);
-    CHECK(sizeof(struct gdl90_geometric), 6);
-    CHECK(sizeof(struct gdl90_geometric_read), 8);
-    CHECK(sizeof(struct gdl90_basic), 28);
-    CHECK(sizeof(struct gdl90_basic_read), 32);
-    CHECK(sizeof(struct gdl90_long), 44);
-    CHECK(sizeof(struct gdl90_long_read), 48);
-    CHECK(sizeof(struct gdl90_write_answer), 2 * word);
-    CHECK(sizeof(struct gdl90_list_answer), 3 * word);
-    CHECK(sizeof(struct gdl90_nth_answer), 3 * word);
-    CHECK(sizeof(struct gdl90_degrees_answer), 24);
+    CHECK(sizeof frame, 2 * word);
+    CHECK(sizeof feed, 5 * word);
+    CHECK(sizeof feed.control, 2 * word);
+    CHECK(sizeof heartbeat, 16);
+    CHECK(sizeof heartbeat.heartbeat, 12);
+    CHECK(sizeof initialization, 3);
+    CHECK(sizeof initialization.initialization, 2);
+    CHECK(sizeof uplink, 12);
+    CHECK(sizeof uplink.uplink, 8);
+    CHECK(sizeof height, 6);
+    CHECK(sizeof height.height, 4);
+    CHECK(sizeof report, 56);
+    CHECK(sizeof report.report, 52);
+    CHECK(sizeof geometric, 8);
+    CHECK(sizeof geometric.geometric, 6);
+    CHECK(sizeof basic, 32);
+    CHECK(sizeof basic.basic, 28);
+    CHECK(sizeof pass_through, 48);
+    CHECK(sizeof pass_through.pass_through, 44);
+    CHECK(sizeof write, 2 * word);
+    CHECK(sizeof list, 3 * word);
+    CHECK(sizeof nth, 3 * word);
+    CHECK(sizeof degrees, 24);
 }
 
 /* 01's value 9, 001 §3.5.1.4, §3.7 and §3.8, and the ends of each width: feet are for every value, codes of marks too. */
