@@ -1,96 +1,196 @@
-/* Reads a recording on standard input and prints what is in it, one line for each frame:
-     cc -Iinclude examples/recording.c target/staticlib/libgdl90.a -o target/recording && target/recording < FILE */
+/* Reads a recording, from a file or from standard input, and says in words what its frames hold:
+     cc -std=c99 -Iinclude examples/recording.c target/staticlib/libgdl90.a -o target/recording && target/recording FILE */
 #include "gdl90.h"
 
 #include <stdio.h>
 
-static void print_report(const char *whose, struct gdl90_report_read read)
+/* A field with a mark is no number: say the mark, and not the 0 that stands there. */
+static void print_number(const char *name, uint8_t mark, long number, const char *unit)
 {
+    static const char *const words[] = {"", "none", "over", "below"};
+
+    if (mark == GDL90_NUMBER)
+        printf("%s %ld %s", name, number, unit);
+    else
+        printf("%s %s", name, words[mark]);
+}
+
+/* Each kind is read by its own function. These print a message that is read, and answer the number of one that is refused. */
+static uint8_t print_heartbeat(const uint8_t *message, size_t length)
+{
+    struct gdl90_heartbeat_read read = gdl90_read_heartbeat(message, length);
+    struct gdl90_heartbeat h = read.heartbeat;
+
+    if (read.number == 0)
+        printf("heartbeat: second %lu of the day, status %02X %02X, uplinks %u, basic and long messages %u\n",
+               (unsigned long)h.time, h.status1, h.status2, h.uplinks, h.basic_and_long);
+    return read.number;
+}
+
+static uint8_t print_initialization(const uint8_t *message, size_t length)
+{
+    struct gdl90_initialization_read read = gdl90_read_initialization(message, length);
+
+    if (read.number == 0)
+        printf("initialization: configuration %02X %02X\n", read.initialization.first, read.initialization.second);
+    return read.number;
+}
+
+static uint8_t print_uplink(const uint8_t *message, size_t length)
+{
+    struct gdl90_uplink_read read = gdl90_read_uplink(message, length);
+
+    if (read.number != 0)
+        return read.number;
+    print_number("uplink: time of reception", read.uplink.reception_mark, read.uplink.reception * 80L, "ns");
+
+    const uint8_t *payload = message + 4;
+    struct gdl90_list_answer list = gdl90_list(payload, GDL90_PAYLOAD);
+
+    if (list.number != 0)
+        printf(", information frames refused with %u\n", list.number);
+    else
+        printf(", information frames %zu\n", list.count);
+    for (size_t n = 0; n < list.count; n++) {
+        struct gdl90_nth_answer frame = gdl90_nth(payload, GDL90_PAYLOAD, n);
+
+        printf("  type %u, %zu bytes, from %02X on\n", frame.kind, frame.length, payload[frame.start]);
+    }
+    return 0;
+}
+
+static uint8_t print_height(const uint8_t *message, size_t length)
+{
+    struct gdl90_height_read read = gdl90_read_height(message, length);
+
+    if (read.number == 0) {
+        print_number("height above terrain:", read.height.height_mark, gdl90_terrain_feet(read.height.height), "ft");
+        printf("\n");
+    }
+    return read.number;
+}
+
+static uint8_t print_geometric(const uint8_t *message, size_t length)
+{
+    struct gdl90_geometric_read read = gdl90_read_geometric(message, length);
+
+    if (read.number == 0) {
+        printf("geometric altitude: %ld ft", (long)gdl90_geometric_feet(read.geometric.altitude));
+        print_number(", merit", read.geometric.merit_mark, read.geometric.merit, "m");
+        printf("%s\n", read.geometric.warning ? ", vertical warning" : "");
+    }
+    return read.number;
+}
+
+static uint8_t print_report(const uint8_t *message, size_t length)
+{
+    static const char *const tracks[] = {"track not valid", "true track", "magnetic heading", "true heading"};
+    struct gdl90_report_read read = gdl90_read_report(message, length);
     struct gdl90_report r = read.report;
+    struct gdl90_degrees_answer at = gdl90_degrees(r.latitude, r.longitude);
 
-    if (read.number != 0) {
-        printf("%s refused with %u\n", whose, read.number);
-        return;
-    }
-    printf("%s %06lX '%.8s'", whose, (unsigned long)r.address, (const char *)r.call_sign);
-    if (r.position_mark == GDL90_NUMBER) {
-        struct gdl90_degrees_answer at = gdl90_degrees(r.latitude, r.longitude);
+    if (read.number != 0)
+        return read.number;
+    printf("%s: %06lX ", message[0] == GDL90_OWNSHIP ? "ownship" : "traffic", (unsigned long)r.address);
+    for (int i = 0; i < 8; i++) /* a call sign may hold any bytes, and no zero ends it */
+        putchar(r.call_sign[i] >= ' ' && r.call_sign[i] <= '~' ? r.call_sign[i] : '?');
+    if (r.position_mark == GDL90_NUMBER)
+        printf(", at %.5f %.5f", at.latitude, at.longitude);
+    else
+        printf(", position none");
+    print_number(", altitude", r.altitude_mark, gdl90_pressure_feet(r.altitude), "ft");
+    print_number(", speed", r.speed_mark, r.speed, "kt");
+    print_number(", climb", r.climb_mark, r.climb * 64L, "ft/min");
+    printf(", %s", tracks[r.track_kind]);
+    if (r.track_kind != 0)
+        printf(" %.1f", r.track * 360.0 / 256.0);
+    printf(", %s%s%s\n", r.airborne ? "airborne" : "on the ground", r.extrapolated ? ", extrapolated" : "",
+           r.alert == 1 ? ", alert" : "");
+    return 0;
+}
 
-        printf(" at %.5f %.5f", at.latitude, at.longitude);
-    }
-    if (r.altitude_mark == GDL90_NUMBER)
-        printf(" %ld ft", (long)gdl90_pressure_feet(r.altitude));
-    if (r.climb_mark == GDL90_NUMBER)
-        printf(" %+ld ft/min", r.climb * 64L);
+static void print_payload(const uint8_t *payload, size_t length)
+{
+    printf(", payload ");
+    for (size_t i = 0; i < length; i++)
+        printf("%02X", payload[i]);
     printf("\n");
 }
 
-static void print_uplink(const uint8_t *message, size_t length)
+static uint8_t print_basic(const uint8_t *message, size_t length)
 {
-    struct gdl90_uplink_read read = gdl90_read_uplink(message, length);
-    struct gdl90_list_answer list;
+    struct gdl90_basic_read read = gdl90_read_basic(message, length);
 
-    if (read.number != 0) {
-        printf("uplink refused with %u\n", read.number);
-        return;
+    if (read.number == 0) {
+        print_number("basic pass-through: time of reception", read.basic.reception_mark, read.basic.reception * 80L, "ns");
+        print_payload(read.basic.payload, sizeof read.basic.payload);
     }
-    list = gdl90_list(message + 4, length - 4);
-    if (list.number != 0)
-        printf("uplink, its payload refused with %u\n", list.number);
-    else
-        printf("uplink with %lu information frames\n", (unsigned long)list.count);
+    return read.number;
 }
 
-static void print_heartbeat(struct gdl90_heartbeat_read read)
+static uint8_t print_long(const uint8_t *message, size_t length)
 {
-    if (read.number != 0)
-        printf("heartbeat refused with %u\n", read.number);
-    else
-        printf("heartbeat at second %lu of the day\n", (unsigned long)read.heartbeat.time);
+    struct gdl90_long_read read = gdl90_read_long(message, length);
+    struct gdl90_long l = read.pass_through;
+
+    if (read.number == 0) {
+        print_number("long pass-through: time of reception", l.reception_mark, l.reception * 80L, "ns");
+        print_payload(l.payload, sizeof l.payload);
+    }
+    return read.number;
 }
 
-static void print_message(const uint8_t *message, size_t length)
+/* The first byte says the kind; 6 is the number of an id that no kind has. */
+static uint8_t print_kind(const uint8_t *message, size_t length)
 {
     switch (message[0]) {
-    case GDL90_HEARTBEAT:
-        print_heartbeat(gdl90_read_heartbeat(message, length));
-        break;
-    case GDL90_UPLINK:
-        print_uplink(message, length);
-        break;
-    case GDL90_OWNSHIP:
-        print_report("ownship", gdl90_read_report(message, length));
-        break;
-    case GDL90_TRAFFIC:
-        print_report("traffic", gdl90_read_report(message, length));
-        break;
-    default:
-        printf("message with id %u, %lu bytes\n", message[0], (unsigned long)length);
+    case GDL90_HEARTBEAT: return print_heartbeat(message, length);
+    case GDL90_INITIALIZATION: return print_initialization(message, length);
+    case GDL90_UPLINK: return print_uplink(message, length);
+    case GDL90_HEIGHT: return print_height(message, length);
+    case GDL90_OWNSHIP: return print_report(message, length);
+    case GDL90_GEOMETRIC: return print_geometric(message, length);
+    case GDL90_TRAFFIC: return print_report(message, length);
+    case GDL90_BASIC: return print_basic(message, length);
+    case GDL90_LONG: return print_long(message, length);
+    default: return 6;
     }
 }
 
-int main(void)
+static void print_frames(FILE *recording)
 {
-    static uint8_t room[438], message[436], bytes[4096];
+    static uint8_t room[GDL90_ROOM], message[GDL90_LONGEST_MESSAGE], bytes[4096];
     struct gdl90_feed_control control = {0, 0};
     size_t got;
 
-    while ((got = fread(bytes, 1, sizeof bytes, stdin)) > 0) {
-        size_t at = 0;
-
-        while (at < got) {
+    while ((got = fread(bytes, 1, sizeof bytes, recording)) > 0) {
+        for (size_t at = 0; at < got;) {
             struct gdl90_feed_answer fed = gdl90_feed(control, room, message, bytes + at, got - at);
+            uint8_t number = fed.number;
 
             control = fed.control;
             at += fed.taken;
-            if (fed.answered && fed.number == 0)
-                print_message(message, fed.length);
-            else if (fed.answered)
-                printf("frame refused with %u\n", fed.number);
+            if (fed.answered && number == 0)
+                number = print_kind(message, fed.length);
+            if (number != 0)
+                printf("refused with %u\n", number);
         }
     }
-    if (ferror(stdin)) {
-        perror("recording");
+}
+
+int main(int argc, char **argv)
+{
+    const char *name = argc > 1 ? argv[1] : "standard input";
+    FILE *recording = argc > 1 ? fopen(name, "rb") : stdin;
+
+    if (recording != NULL)
+        print_frames(recording);
+    if (recording == NULL || ferror(recording)) {
+        perror(name);
+        return 1;
+    }
+    if (fflush(stdout) != 0 || ferror(stdout)) {
+        perror("standard output");
         return 1;
     }
     return 0;
