@@ -6,6 +6,7 @@ list=$root/gdl90-list
 sample=$root/samples/recording.gdl90
 listing=$root/samples/recording.txt
 [ -x "$root/target/bin/lister" ] || { echo 'target/bin/lister is not built: run rt check lister' >&2; exit 1; }
+"$list" /dev/null > /dev/null 2>&1 # builds it anew where a source is newer
 tmp=$(mktemp -d)
 trap 'rm -rf "$tmp"' EXIT
 out=$tmp/out err=$tmp/err

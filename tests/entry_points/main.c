@@ -1,7 +1,7 @@
 /* Every function of gdl90.h, called from C: values that the scope paper (01) and the specification (001) give, each refusal, the
    memory around what is lent, and each field of each struct. Nothing that is expected here comes from the library.
    All .c files of this folder make one program:
-     cd tests && cc -std=c99 -I../include *.c ../target/staticlib/libgdl90.a -o ../target/entry_points && ../target/entry_points */
+     cd tests/entry_points && cc -std=c99 -I../../include *.c ../../target/staticlib/libgdl90.a -o ../../target/entry_points */
 #include "check.h"
 
 unsigned long checks_passed, checks_failed;
