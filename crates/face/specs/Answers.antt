@@ -19,14 +19,15 @@ use Rattle.passing.specs.Uplink.{uplinkRead}
 use Rattle.passing.specs.PassThrough.{basicRead, longRead}
 use Rattle.report.specs.Reading.{goodReport, reportRead}
 use Rattle.face.specs.declared.WriteAnswer.{WriteAnswer}
-use Rattle.flat.specs.declared.FlatReport.{FlatReport}
+use Rattle.flat_report.specs.declared.FlatReport.{FlatReport}
 use Rattle.flat.specs.declared.FlatUplinkRead.{FlatUplinkRead}
 use Rattle.flat.specs.declared.FlatHeightRead.{FlatHeightRead}
-use Rattle.flat.specs.declared.FlatReportRead.{FlatReportRead}
+use Rattle.flat_report.specs.declared.FlatReportRead.{FlatReportRead}
 use Rattle.flat.specs.declared.FlatGeometricRead.{FlatGeometricRead}
 use Rattle.flat.specs.declared.FlatBasicRead.{FlatBasicRead}
 use Rattle.flat.specs.declared.FlatLongRead.{FlatLongRead}
-use Rattle.flat.specs.Flat.{flatUplink, flatHeight, flatGeometric, flatBasic, flatLong, reportFrom}
+use Rattle.flat.specs.Flat.{flatUplink, flatHeight, flatGeometric, flatBasic, flatLong}
+use Rattle.flat_report.specs.Flat.{reportFrom}
 
 -- the message where its first byte is the id, else no bytes
 unfoldable pub ofKind : ℕ → List ℕ → List ℕ

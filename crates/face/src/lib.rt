@@ -8,7 +8,8 @@ ghost use Rattle.altitudes.specs.Geometric.{goodGeometric, geometricBytes};
 ghost use Rattle.passing.specs.Uplink.{uplinkBytes, writingUplink};
 ghost use Rattle.passing.specs.PassThrough.{goodBasicPassThrough, basicPassThroughBytes, goodLongPassThrough, longPassThroughBytes};
 ghost use Rattle.report.specs.Bytes.{reportBytes};
-ghost use Rattle.flat.specs.Flat.{uplinkFrom, terrainFrom, reportFrom, geometricFrom, basicFrom, longFrom};
+ghost use Rattle.flat.specs.Flat.{uplinkFrom, terrainFrom, geometricFrom, basicFrom, longFrom};
+ghost use Rattle.flat_report.specs.Flat.{reportFrom};
 ghost use Rattle.face.specs.Answers.{ofKind, ofReport, numbered, heartbeatAnswer, initializationAnswer, uplinkAnswer, heightAnswer, reportAnswer, geometricAnswer};
 ghost use Rattle.face.specs.Answers.{basicAnswer, longAnswer, writeAnswer, AnsweredBy, AnsweredWriting, goodFlatReport};
 use fields::Written;
@@ -20,10 +21,10 @@ use flat::FlatHeight;
 use flat::FlatHeightRead;
 use flat::FlatLong;
 use flat::FlatLongRead;
-use flat::FlatReport;
-use flat::FlatReportRead;
 use flat::FlatUplink;
 use flat::FlatUplinkRead;
+use flat_report::FlatReport;
+use flat_report::FlatReportRead;
 use kinds::BasicPassThrough;
 use kinds::GeometricAltitude;
 use kinds::Heartbeat;
@@ -235,7 +236,7 @@ pub fn write_report(id: u8, report: FlatReport, out: &mut [u8]) -> WriteAnswer
     ensures { λ r. ⌜ AnsweredWriting (goodFlatReport report) (reportBytes id (reportFrom report)) (now (out .entry)) r (now (out .exit)) ⌝ }
 {
     if report.track_kind <= 3 {
-        let value = flat::report_from(report);
+        let value = flat_report::report_from(report);
         let written = report::write_report(id, value, out);
         return write_answer(written);
     }

@@ -82,7 +82,7 @@ fn read_as(kind: Kind, message: &[u8]) -> Reading
         Kind::Ownship => {
             let read = report::read_report(message);
             let flat = read.report;
-            let report = flat::report_from(flat);
+            let report = flat_report::report_from(flat);
             as_reading(read.number, Message::Ownship(Ownship { report }))
         }
         Kind::Geometric => {
@@ -93,7 +93,7 @@ fn read_as(kind: Kind, message: &[u8]) -> Reading
         Kind::Traffic => {
             let read = report::read_report(message);
             let flat = read.report;
-            let report = flat::report_from(flat);
+            let report = flat_report::report_from(flat);
             as_reading(read.number, Message::Traffic(Traffic { report }))
         }
         Kind::Basic => {

@@ -11,7 +11,7 @@ use borrow.Author.Tests.{ne-eqb, ltb-true, eqb-true, leb-true, le-leb, lt-leb}
 use Rattle.numbers.proofs.Every.{both, chosen, every, at}
 use Rattle.numbers.proofs.Signed.{field-signed, signed-field, field-fits}
 use Rattle.numbers.specs.Signed.{signedIn, fieldOf}
-use Rattle.flat.specs.Flat.{trackNumber, trackFrom}
+use Rattle.flat_report.specs.Flat.{trackNumber, trackFrom}
 use Rattle.report.specs.Marks.{noneMark, positionOf, isNone, placeOf, altitudeOf, stepsOr, bit, speedOf, knotsOr, climbOf, climbOr}
 use Rattle.report.specs.Reading.{between, isZero, goodPosition}
 use Rattle.kinds.specs.declared.Position.{Position}

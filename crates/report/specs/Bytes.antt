@@ -7,7 +7,7 @@ use lib.Dec.{eqb}
 use lib.IntN.{pos, negsuc}
 use lib.ListN.{getD}
 use Rattle.numbers.specs.Signed.{fieldOf}
-use Rattle.flat.specs.Flat.{trackNumber, trackFrom}
+use Rattle.flat_report.specs.Flat.{trackNumber, trackFrom}
 use Rattle.report.specs.Marks.{positionOf, placeOf, altitudeOf, stepsOr, bit, speedOf, knotsOr, climbOf, climbOr}
 use Rattle.kinds.specs.Bytes.{eightAt}
 use Rattle.report.specs.declared.Codes.{Codes}

@@ -12,8 +12,8 @@ use Rattle.report.specs.Bytes.{reportIn}
 use Rattle.kinds.specs.Bytes.{noBytes}
 use Rattle.kinds.specs.declared.Position.{Position}
 use Rattle.kinds.specs.declared.Report.{Report}
-use Rattle.flat.specs.declared.FlatReportRead.{FlatReportRead}
-use Rattle.flat.specs.Flat.{flatReport}
+use Rattle.flat_report.specs.declared.FlatReportRead.{FlatReportRead}
+use Rattle.flat_report.specs.Flat.{flatReport}
 use Rattle.kinds.specs.declared.Message.{Message}
 use Rattle.kinds.specs.declared.Message.the-variants.{Ownship, Traffic}
 use Rattle.kinds.specs.declared.Reading.{Reading}

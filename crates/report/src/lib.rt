@@ -9,8 +9,8 @@ ghost use Rattle.kinds.specs.Bytes.{eightAt};
 ghost use Rattle.report.specs.Bytes.{three, threeAt, twelveHigh, highAt, twelveLow, lowAt, codesIn, codesOf, reportIn, packed, reportBytes};
 ghost use Rattle.report.specs.Reading.{between, goodPosition, withinBits, goodReport, reportAccepted, reportRefused, reportRead};
 use fields::Written;
-use flat::FlatReport;
-use flat::FlatReportRead;
+use flat_report::FlatReport;
+use flat_report::FlatReportRead;
 use kinds::Altitude;
 use kinds::Bytes8;
 use kinds::Climb;
@@ -38,7 +38,7 @@ pub fn read_report(message: &[u8]) -> FlatReportRead
 fn report_accepted(report: Report) -> FlatReportRead
     ensures { λ r. ⌜ r ≡ reportAccepted report ⌝ }
 {
-    let report = flat::flat_report(report);
+    let report = flat_report::flat_report(report);
     FlatReportRead { number: 0, report }
 }
 
@@ -170,7 +170,7 @@ fn codes_of(report: Report) -> Codes
         latitude: field_of(at.latitude, 0x800000),
         longitude: field_of(at.longitude, 0x800000),
         altitude: steps_or(altitude, 0xFFF),
-        kind: flat::track_number(kind),
+        kind: flat_report::track_number(kind),
         extrapolated: bit_of(report.extrapolated),
         airborne: bit_of(report.airborne),
         speed: knots_or(speed, 0xFFE, 0xFFF),
@@ -192,7 +192,7 @@ fn report_in(message: &[u8]) -> Report
         address: three_at(message, 2),
         position: position_of(codes.latitude, codes.longitude, quality / 16),
         altitude: altitude_of(codes.altitude),
-        track_kind: flat::track_from(codes.kind),
+        track_kind: flat_report::track_from(codes.kind),
         extrapolated: codes.extrapolated == 1,
         airborne: codes.airborne == 1,
         integrity: quality / 16,

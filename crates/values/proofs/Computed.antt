@@ -10,7 +10,7 @@ use Rattle.collecting.specs.Step.{collected, unescaped, inside, checked, closed
 use Rattle.collecting.specs.Stream.{reply, replyTo, answers}
 use Rattle.fields.specs.Reading.{reading}
 use Rattle.status.specs.Heartbeat.{heartbeatIn}
-use Rattle.flat.specs.Flat.{trackFrom}
+use Rattle.flat_report.specs.Flat.{trackFrom}
 use Rattle.report.specs.Marks.{positionOf, altitudeOf, speedOf, climbOf}
 use Rattle.report.specs.Bytes.{reportIn}
 use Rattle.report.specs.Reading.{goodPosition, goodReport, carriedBy}

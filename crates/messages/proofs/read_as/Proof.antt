@@ -10,9 +10,9 @@ use Rattle.kinds.specs.declared.InitializationRead.{InitializationRead}
 use Rattle.kinds.specs.declared.LongRead.{LongRead}
 use Rattle.kinds.specs.declared.Report.{Report}
 use Rattle.kinds.specs.declared.Reading.the-variants.{Message as Accepted}
-use Rattle.flat.specs.declared.FlatReportRead.{FlatReportRead}
-use Rattle.flat.specs.Flat.{reportFrom}
-use Rattle.flat.proofs.Laws.{there-and-back}
+use Rattle.flat_report.specs.declared.FlatReportRead.{FlatReportRead}
+use Rattle.flat_report.specs.Flat.{reportFrom}
+use Rattle.flat_report.proofs.Laws.{report-there-and-back}
 use Rattle.kinds.specs.declared.UplinkRead.{UplinkRead}
 use Rattle.kinds.specs.declared.Message.the-variants as kind
 use Rattle.report.specs.Reading.{carriedBy}
@@ -139,7 +139,7 @@ returns-5 c =
     of-kind _ (r .before .enum-told5 .given .1)
     (c .as-reading5 .ensures
     ∙ ap (λ (x : Report). asReading (r .read-report .result .number) (kind.Ownship (record { report = x }))) (c .before .report-from .ensures)
-    ∙ made _ _ _ _ _ _ _ _ (λ (a : FlatReportRead). asReading (a .number) (kind.Ownship (record { report = reportFrom (a .report) }))) (r .read-report .ensures) (λ x. ap (λ (y : Report). Accepted (kind.Ownship (record { report = y }))) (there-and-back .2 x)) refl refl)
+    ∙ made _ _ _ _ _ _ _ _ (λ (a : FlatReportRead). asReading (a .number) (kind.Ownship (record { report = reportFrom (a .report) }))) (r .read-report .ensures) (λ x. ap (λ (y : Report). Accepted (kind.Ownship (record { report = y }))) (report-there-and-back x)) refl refl)
 
 returns-6 : tie.Need-returns-6
 returns-6 c =
@@ -153,7 +153,7 @@ returns-7 c =
     of-kind _ (r .before .enum-told7 .given .1)
     (c .as-reading7 .ensures
     ∙ ap (λ (x : Report). asReading (r .read-report2 .result .number) (kind.Traffic (record { report = x }))) (c .before .report-from2 .ensures)
-    ∙ made _ _ _ _ _ _ _ _ (λ (a : FlatReportRead). asReading (a .number) (kind.Traffic (record { report = reportFrom (a .report) }))) (r .read-report2 .ensures) (λ x. ap (λ (y : Report). Accepted (kind.Traffic (record { report = y }))) (there-and-back .2 x)) refl refl)
+    ∙ made _ _ _ _ _ _ _ _ (λ (a : FlatReportRead). asReading (a .number) (kind.Traffic (record { report = reportFrom (a .report) }))) (r .read-report2 .ensures) (λ x. ap (λ (y : Report). Accepted (kind.Traffic (record { report = y }))) (report-there-and-back x)) refl refl)
 
 returns-8 : tie.Need-returns-8
 returns-8 c =

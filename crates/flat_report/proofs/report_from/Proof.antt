@@ -1,9 +1,9 @@
--- `flat::report_from` meets its contract, field by field.
+-- `flat_report::report_from` meets its contract, field by field.
 -- Assumes nothing.
 use Rattle.units.proofs.Wide.{back32}
 use borrow.Author.Needs.{needs}
-use Rattle.flat.proofs.report_from.Statement.{statement}
-use Rattle.flat.proofs.report_from.Tie as tie
+use Rattle.flat_report.proofs.report_from.Statement.{statement}
+use Rattle.flat_report.proofs.report_from.Tie as tie
 
 position-from-requires : tie.Need-position-from-requires
 position-from-requires c κs = search needs

@@ -1,10 +1,10 @@
--- `flat::flat_report` meets its contract, field by field.
+-- `flat_report::flat_report` meets its contract, field by field.
 -- Assumes nothing.
 use mathlib.Core.Path.{_∙_}
 use Rattle.units.proofs.Wide.{back32}
 use borrow.Author.Needs.{needs}
-use Rattle.flat.proofs.flat_report.Statement.{statement}
-use Rattle.flat.proofs.flat_report.Tie as tie
+use Rattle.flat_report.proofs.flat_report.Statement.{statement}
+use Rattle.flat_report.proofs.flat_report.Tie as tie
 
 position-mark-requires : tie.Need-position-mark-requires
 position-mark-requires c κs = search needs

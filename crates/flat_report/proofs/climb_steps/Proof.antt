@@ -1,10 +1,10 @@
--- `flat::climb_steps` meets its contract, by the case.
+-- `flat_report::climb_steps` meets its contract, by the case.
 -- Assumes nothing.
 use mathlib.Core.Path.{refl}
 use Rattle.units.proofs.Wide.{back32}
 use borrow.Author.Needs.{needs}
-use Rattle.flat.proofs.climb_steps.Statement.{statement}
-use Rattle.flat.proofs.climb_steps.Tie as tie
+use Rattle.flat_report.proofs.climb_steps.Statement.{statement}
+use Rattle.flat_report.proofs.climb_steps.Tie as tie
 
 enum-known-climb : tie.Need-enum-known-climb
 enum-known-climb c = search needs

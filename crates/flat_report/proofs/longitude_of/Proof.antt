@@ -1,10 +1,10 @@
--- `flat::longitude_of` meets its contract, by the case.
+-- `flat_report::longitude_of` meets its contract, by the case.
 -- Assumes nothing.
 use mathlib.Core.Path.{refl}
 use Rattle.units.proofs.Wide.{back32}
 use borrow.Author.Needs.{needs}
-use Rattle.flat.proofs.longitude_of.Statement.{statement}
-use Rattle.flat.proofs.longitude_of.Tie as tie
+use Rattle.flat_report.proofs.longitude_of.Statement.{statement}
+use Rattle.flat_report.proofs.longitude_of.Tie as tie
 
 enum-known-position : tie.Need-enum-known-position
 enum-known-position c = search needs

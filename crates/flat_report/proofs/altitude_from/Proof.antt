@@ -1,9 +1,9 @@
--- `flat::altitude_from` meets its contract, by the mark.
+-- `flat_report::altitude_from` meets its contract, by the mark.
 -- Assumes nothing.
 use borrow.Author.Tests.{eq-eqb, ne-eqb}
-use Rattle.flat.specs.Flat.{altitudeFrom}
-use Rattle.flat.proofs.altitude_from.Statement.{statement}
-use Rattle.flat.proofs.altitude_from.Tie as tie
+use Rattle.flat_report.specs.Flat.{altitudeFrom}
+use Rattle.flat_report.proofs.altitude_from.Statement.{statement}
+use Rattle.flat_report.proofs.altitude_from.Tie as tie
 
 returns : tie.Need-returns
 unfolding altitudeFrom
