@@ -4,8 +4,8 @@ ghost use mathlib.Core.List.{_++_};
 ghost use Prim.Native.Nat.{_+_, _-_, _*_, _≤_, _<_};
 ghost use lib.ListN.{length, take, replicate};
 ghost use Rattle.fcs.specs.Fcs.{fcs};
-ghost use Rattle.collecting.specs.Step.{held, cleared, fresh, collected, unescaped, inside, checked, closed, next, shown, stepped, left};
-ghost use Rattle.collecting.specs.Stream.{isAnswered, run, fed};
+ghost use Rattle.collecting.specs.Step.{held, cleared, fresh, collected, unescaped, inside, checked, closed, taken, next, shown, stepped, left};
+ghost use Rattle.collecting.specs.Stream.{after, isAnswered, run, fed, unflagged};
 
 pub enum Phase {
     // before the first flag
@@ -247,6 +247,63 @@ pub fn feed(control: Control, room: &mut [u8; 438], message: &mut [u8; 436], byt
         control: c,
         taken: i,
         answer: Answer::None,
+    }
+}
+
+pub struct Filled {
+    pub control: Control,
+    // how many bytes were taken
+    pub taken: usize,
+}
+
+// The bytes before the first flag, or all where there is none: none of them is answered. With no byte to
+// take the state is handed back as it came.
+pub fn fill(control: Control, room: &mut [u8; 438], bytes: &[u8]) -> Filled
+    ensures { λ r. ⌜ r .taken ≡ unflagged (now (bytes .entry)) ⌝ }
+    ensures { λ r. ⌜ held (r .control) (now (room .exit)) ≡ after (held control (now (room .entry))) (take (r .taken) (now (bytes .entry))) ⌝ }
+{
+    if bytes.len() == 0 {
+        return Filled { control, taken: 0 };
+    }
+    if bytes[0] == 0x7E {
+        return Filled { control, taken: 0 };
+    }
+    let usable = within(control, room);
+    fill_within(usable, room, bytes)
+}
+
+// A state with a count over 438 is taken as the fresh one.
+fn within(control: Control, room: &mut [u8; 438]) -> Control
+    ensures { λ r. ⌜ held r (now (room .exit)) ≡ taken (held control (now (room .entry))) ⌝ }
+{
+    if 438 < control.count {
+        return clear(Phase::LeadIn, room);
+    }
+    control
+}
+
+// The count is tested before the bytes, and not at each.
+fn fill_within(control: Control, room: &mut [u8; 438], bytes: &[u8]) -> Filled
+    requires { ⌜ control .count ≤ 438 ⌝ }
+    ensures { λ r. ⌜ r .taken ≡ unflagged (now (bytes .entry)) ⌝ }
+    ensures { λ r. ⌜ held (r .control) (now (room .exit)) ≡ after (held control (now (room .entry))) (take (r .taken) (now (bytes .entry))) ⌝ }
+{
+    let mut c = control;
+    let mut n = 0;
+    while n < bytes.len() {
+        let b = bytes[n];
+        if b == 0x7E {
+            return Filled {
+                control: c,
+                taken: n,
+            };
+        }
+        c = inside_frame(c, room, b);
+        n += 1;
+    }
+    Filled {
+        control: c,
+        taken: n,
     }
 }
 
