@@ -14,25 +14,13 @@ use Rattle.listing.specs.declared.Processed.{Processed}
 use Rattle.listing.specs.Listing.{limit, longest, State, state, opening, start, counted, advanced, textOf, reached, texts, listing, Sane, takenOf, Processes}
 use Rattle.listing.specs.Stretches.{Run, stop, full, call}
 use Rattle.listing.specs.Claims.{Joined, Moves}
-use Rattle.listing.proofs.Steps.{sane-opening, sane-advanced, steady-sane, settled-sane, reached-append, texts-append}
+use Rattle.listing.proofs.Steps.{sane-opening, steady-sane, settled-sane, reached-append, texts-append, reached-taken, sane-reached}
 
 -- what is stored at the front of a list that is long enough is read there
 front : {out left text : List ℕ} {n : ℕ} → Stored out 0 text n left → n ≤ length out → take n left ≡ text
 front {out} {left} {text} {n} p h =
     let m : n ≡ length text = omega (arith, p .ends) in
     rw (m, p .leaves, sets-eq text out 0 (omega arith)) (take-append-seam text (drop (0 + length text) out))
-
--- the state counts the bytes
-reached-taken : (s : State) (bs : List ℕ) → reached s bs .lister .taken ≡ s .lister .taken + length bs
-unfolding reached advanced counted
-reached-taken s [] = omega arith
-reached-taken s (b ∷ bs) = reached-taken (advanced s b) bs ∙ omega arith
-
--- within the limit no state on the way is taken as that at the start
-sane-reached : (s : State) (bs : List ℕ) → Sane (s .lister) → s .lister .taken + length bs ≤ limit → Sane (reached s bs .lister)
-unfolding reached advanced counted
-sane-reached s [] w h = w
-sane-reached s (b ∷ bs) w h = sane-reached (advanced s b) bs (sane-advanced s b w (omega arith)) (omega arith)
 
 few-by : (t u : Bool) (k n : ℕ) → (t ≡ true → suc k ≤ n) → cond t (cond u (suc k) 0) 0 ≤ n
 few-by true true k n f = f refl

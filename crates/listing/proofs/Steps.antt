@@ -100,6 +100,18 @@ unfolding reached texts
 texts-append s [] b = refl
 texts-append s (x ∷ a) b = ap (λ (l : List ℕ). textOf s x ++ l) (texts-append (advanced s x) a b) ∙ sym (append-assoc (textOf s x) (texts (advanced s x) a) (texts (reached (advanced s x) a) b))
 
+-- the state counts the bytes
+pub reached-taken : (s : State) (bs : List ℕ) → reached s bs .lister .taken ≡ s .lister .taken + length bs
+unfolding reached advanced counted
+reached-taken s [] = omega arith
+reached-taken s (b ∷ bs) = reached-taken (advanced s b) bs ∙ omega arith
+
+-- within the limit no state on the way is taken as that at the start
+pub sane-reached : (s : State) (bs : List ℕ) → Sane (s .lister) → s .lister .taken + length bs ≤ limit → Sane (reached s bs .lister)
+unfolding reached advanced counted
+sane-reached s [] w h = w
+sane-reached s (b ∷ bs) w h = sane-reached (advanced s b) bs (sane-advanced s b w (omega arith)) (omega arith)
+
 reached-more : (s : State) (bs : List ℕ) (i : ℕ) → i < length bs → reached s (take (i + 1) bs) ≡ advanced (reached s (take i bs)) (getD bs i 0)
 unfolding reached
 reached-more s bs i h = rw (add-one, take-suc bs i 0) (reached-append s (take i bs) (getD bs i 0 ∷ []))

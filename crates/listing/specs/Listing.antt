@@ -67,6 +67,16 @@ counted l b control answered = record {
   after = cond (eqb b flag) (l .taken + 1) (cond (eqb (l .lead) (l .taken)) (l .taken + 1) (l .after));
 }
 
+-- the lister after n bytes that are no flags, with collecting's control after them
+unfoldable pub passed : Lister → ℕ → Control → Lister
+passed l n control = record {
+  control = control;
+  taken = l .taken + n;
+  lines = l .lines;
+  lead = cond (ltb 0 n && eqb (l .lead) (l .taken)) (l .taken + n) (l .lead);
+  after = cond (ltb 0 n && eqb (l .lead) (l .taken)) (l .taken + n) (l .after);
+}
+
 -- the state after a byte
 unfoldable pub advanced : State → ℕ → State
 advanced s b = state (counted (s .lister) b (next (collector s) b .control) (isAnswered (answerTo (collector s) b))) (next (collector s) b .room)

@@ -2,15 +2,15 @@
 ghost use mathlib.Core.Path.{_≡_};
 ghost use mathlib.Core.Bool.{cond};
 ghost use mathlib.Core.List.{_++_, _∷_, []};
-ghost use Prim.Native.Nat.{_+_, _≤_, _<_};
+ghost use Prim.Native.Nat.{_+_, _-_, _≤_, _<_, min};
 ghost use lib.ListN.{length, take};
 ghost use Rattle.numbers.specs.Lent.{Stored};
-ghost use Rattle.collecting.specs.Stream.{reply};
+ghost use Rattle.collecting.specs.Stream.{reply, unflagged};
 ghost use Rattle.collecting.specs.Claims.{Ranged};
 ghost use Rattle.messages.specs.Message.{readMessage, number};
 ghost use Rattle.listing.specs.Line.{decimal, field, shownAs};
-ghost use Rattle.listing.specs.Listing.{limit, longest, state, answerLine, replyLine, textOf, advanced, header, ending, Sane, Processes};
-ghost use Rattle.listing.specs.Listing.{opening as Listing·opening, start as Listing·start, steady as Listing·steady, counted as Listing·counted, holds as Listing·holds, settled as Listing·settled};
+ghost use Rattle.listing.specs.Listing.{limit, longest, state, answerLine, replyLine, textOf, advanced, reached, header, ending, Sane, Processes};
+ghost use Rattle.listing.specs.Listing.{opening as Listing·opening, start as Listing·start, steady as Listing·steady, counted as Listing·counted, passed as Listing·passed, holds as Listing·holds, settled as Listing·settled};
 use collecting::Answer;
 use collecting::Control;
 use kinds::Reading;
@@ -40,6 +40,11 @@ pub struct Processed {
     pub taken: usize,
     // how many bytes of text they gave
     pub written: usize,
+}
+
+struct Stretch {
+    lister: Lister,
+    taken: usize,
 }
 
 struct Advanced {
@@ -93,7 +98,8 @@ fn opening() -> Lister
 }
 
 // Takes bytes, and writes their lines to the front of out, until there are no more bytes, or out may not
-// hold another line, or the limit is reached. The room is the state's.
+// hold another line, or the limit is reached. The room is the state's. Each turn takes the bytes before a
+// flag at once, and then the flag.
 pub fn process(lister: Lister, room: &mut [u8; 438], bytes: &[u8], out: &mut [u8]) -> Processed
     ensures { λ r. ⌜ Processes (Listing·settled (state lister (now (room .entry)))) (now (bytes .entry)) (now (out .entry)) r (now (room .exit)) (now (out .exit)) ⌝ }
 {
@@ -101,15 +107,12 @@ pub fn process(lister: Lister, room: &mut [u8; 438], bytes: &[u8], out: &mut [u8
     let mut message = [0u8; 436];
     let mut i = 0;
     let mut at = 0;
-    while i < bytes.len() {
-        if LIMIT <= l.taken {
-            return Processed {
-                lister: l,
-                taken: i,
-                written: at,
-            };
-        }
-        if out.len() - at < LONGEST {
+    let end = up_to_limit(l.taken, bytes.len());
+    while LONGEST <= out.len() - at {
+        let p = pass(l, room, &bytes[i..end]);
+        l = p.lister;
+        i += p.taken;
+        if end <= i {
             return Processed {
                 lister: l,
                 taken: i,
@@ -126,6 +129,18 @@ pub fn process(lister: Lister, room: &mut [u8; 438], bytes: &[u8], out: &mut [u8
         taken: i,
         written: at,
     }
+}
+
+// As many of n bytes as the limit leaves behind those taken.
+fn up_to_limit(taken: u64, n: usize) -> usize
+    requires { ⌜ taken ≤ limit ⌝ }
+    ensures { λ r. ⌜ r ≡ min n (limit - taken) ⌝ }
+{
+    let left = LIMIT - taken;
+    if left < n as u64 {
+        return left as usize;
+    }
+    n
 }
 
 // Writes the last line to the front of out, and answers its length.
@@ -168,6 +183,37 @@ fn holds(l: Lister) -> bool
     ensures { λ r. ⌜ r ≡ Listing·holds l ⌝ }
 {
     (l.taken <= LIMIT) & ((l.lines <= l.taken) & ((l.lead <= l.taken) & (l.after <= l.taken)))
+}
+
+// Takes the bytes before the first flag, or all where there is none: they have no line.
+fn pass(l: Lister, room: &mut [u8; 438], bytes: &[u8]) -> Stretch
+    requires { ⌜ Sane l × (l .taken + length (now bytes) ≤ limit) ⌝ }
+    ensures { λ r. ⌜ r .taken ≡ unflagged (now (bytes .entry)) ⌝ }
+    ensures { λ r. ⌜ state (r .lister) (now (room .exit)) ≡ reached (state l (now (room .entry))) (take (r .taken) (now (bytes .entry))) ⌝ }
+{
+    let control = l.control;
+    let filled = collecting::fill(control, room, bytes);
+    let taken = filled.taken;
+    let control = filled.control;
+    let lister = passed(l, taken as u64, control);
+    Stretch { lister, taken }
+}
+
+// The lister after n bytes that are no flags, with collecting's control after them.
+fn passed(l: Lister, n: u64, control: Control) -> Lister
+    requires { ⌜ l .taken + n ≤ limit ⌝ }
+    ensures { λ r. ⌜ r ≡ Listing·passed l n control ⌝ }
+{
+    let taken = l.taken + n;
+    // no flag has come so far; without a byte nothing moves
+    let lead_in = (0 < n) & (l.lead == l.taken);
+    Lister {
+        control,
+        taken,
+        lines: l.lines,
+        lead: pick(lead_in, taken, l.lead),
+        after: pick(lead_in, taken, l.after),
+    }
 }
 
 // Takes a byte, and writes its line from `at` on.
