@@ -10,7 +10,8 @@ use borrow.Author.Tests.{eq-eqb, ne-eqb}
 use Rattle.framing.specs.Stuffing.{flag}
 use Rattle.listing.specs.declared.Lister.{Lister}
 use Rattle.listing.specs.Listing.{State, opening, start, counted, advanced, reached}
-use Rattle.listing.specs.Stretches.{leadIn, trailBy, trail}
+use Rattle.collecting.specs.Stream.{unflagged}
+use Rattle.listing.specs.Stretches.{trailBy, trail}
 use Rattle.listing.specs.Claims.{BothEnds}
 
 -- after a flag, with n bytes behind it
@@ -62,9 +63,9 @@ unfolding advanced counted
 outside-other s b w e = rw (e, eq-eqb (s .lister .lead) (s .lister .taken) (w .all)) (record { all = refl; none = refl }, omega (arith, w .all))
 
 outside-by : (s : State) (b : ℕ) (bs : List ℕ) → Outside (s .lister)
-    → (Outside (advanced s b .lister) → Whole (advanced s b) (reached (advanced s b) bs) (leadIn bs) (trail bs))
-    → (t : Bool) → eqb b flag ≡ t → Whole s (reached s (b ∷ bs)) (leadIn (b ∷ bs)) (trail (b ∷ bs))
-unfolding Whole Tail leadIn trail reached
+    → (Outside (advanced s b .lister) → Whole (advanced s b) (reached (advanced s b) bs) (unflagged bs) (trail bs))
+    → (t : Bool) → eqb b flag ≡ t → Whole s (reached s (b ∷ bs)) (unflagged (b ∷ bs)) (trail (b ∷ bs))
+unfolding Whole Tail unflagged trail reached
 outside-by s b bs w ih true e =
     let f = inside-flag s b (omega (arith, w .all)) e in
     let g = inside-tail (advanced s b) bs 0 (f .0) in
@@ -74,8 +75,8 @@ outside-by s b bs w ih false e =
     let g = ih (f .0) in
     rw e (omega (arith, g .0, f .1), g .1)
 
-outside-whole : (s : State) (bs : List ℕ) → Outside (s .lister) → Whole s (reached s bs) (leadIn bs) (trail bs)
-unfolding Whole leadIn trail reached
+outside-whole : (s : State) (bs : List ℕ) → Outside (s .lister) → Whole s (reached s bs) (unflagged bs) (trail bs)
+unfolding Whole unflagged trail reached
 outside-whole s [] w = (omega arith, omega (arith, w .none))
 outside-whole s (b ∷ bs) w = outside-by s b bs w (outside-whole (advanced s b) bs) (eqb b flag) refl
 
@@ -83,5 +84,5 @@ pub both-ends : BothEnds
 unfolding Whole start opening
 both-ends bs =
     let w = outside-whole start bs (record { all = refl; none = refl }) in
-    let l : reached start bs .lister .lead ≡ leadIn bs = omega (arith, w .0) in
+    let l : reached start bs .lister .lead ≡ unflagged bs = omega (arith, w .0) in
     rw (l, w .1)

@@ -4,8 +4,9 @@ use mathlib.Core.Path.{_≡_}
 use mathlib.Core.List.{List, _∷_, _++_}
 use Prim.Native.Nat.{ℕ, _≤_, _<_}
 use lib.ListN.{take}
+use Rattle.collecting.specs.Stream.{unflagged}
 use Rattle.listing.specs.Listing.{limit, longest, State, start, reached, header, lastLine, ending, listing, steady, takenOf}
-use Rattle.listing.specs.Stretches.{Run, leadIn, trail}
+use Rattle.listing.specs.Stretches.{Run, trail}
 
 -- whatever the stretches, the header, their texts joined and the last line are the listing of the whole input, up to the limit
 abbrev pub Joined : Type 0
@@ -17,4 +18,4 @@ Moves = (s : State) (b : ℕ) (bs : List ℕ) (room : ℕ) → s .lister .taken 
 
 -- the last line has the lead-in bytes and the bytes after the last flag
 abbrev pub BothEnds : Type 0
-BothEnds = (bs : List ℕ) → ending (reached start bs .lister) ≡ lastLine (leadIn bs) (trail bs)
+BothEnds = (bs : List ℕ) → ending (reached start bs .lister) ≡ lastLine (unflagged bs) (trail bs)

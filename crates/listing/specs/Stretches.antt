@@ -1,4 +1,4 @@
--- An input in stretches: what a program that reads, calls and writes does in all; and the two ends of the input.
+-- An input in stretches: what a program that reads, calls and writes does in all; and the end of the input.
 -- Assumes nothing.
 use Prim.Native.Nat.{ℕ, suc, _≤_}
 use mathlib.Core.Bool.{cond}
@@ -16,11 +16,6 @@ pub data Run : State → List ℕ → List ℕ → State → Type 0 where
   full : {s : State} {bs : List ℕ} → limit ≤ s .lister .taken → Run s bs [] s
   call : {s s′ : State} {bs out left room rest : List ℕ} {r : Processed} (k : ℕ) → Processes (settled s) (take k bs) out r room left
       → Run (state (r .lister) room) (drop (r .taken) bs) rest s′ → Run s bs (take (r .written) left ++ rest) s′
-
--- the bytes before the first flag: all of them where there is none
-unfoldable pub leadIn : List ℕ → ℕ
-leadIn [] = 0
-leadIn (b ∷ bs) = cond (eqb b flag) 0 (suc (leadIn bs))
 
 -- the bytes after the last flag, where n are before bs and after a flag
 unfoldable pub trailBy : ℕ → List ℕ → ℕ

@@ -70,6 +70,37 @@ impl Collector {
         Answer::None
     }
 
+    /// Takes bytes without a flag, which are not answered: as `push` does, but
+    /// what is between two escapes is copied whole.
+    pub fn extend(&mut self, mut bytes: &[u8]) {
+        while let [first, rest @ ..] = bytes {
+            match self.phase {
+                Phase::LeadIn | Phase::Fault(_) => return,
+                Phase::Clear if *first != ESCAPE => {
+                    let escape = bytes.iter().position(|&byte| byte == ESCAPE);
+                    let (clear, rest) = bytes.split_at(escape.unwrap_or(bytes.len()));
+                    self.collect_all(clear);
+                    bytes = rest;
+                }
+                Phase::Clear | Phase::Escape => {
+                    self.push(*first);
+                    bytes = rest;
+                }
+            }
+        }
+    }
+
+    fn collect_all(&mut self, bytes: &[u8]) {
+        let end = self.count + bytes.len();
+        match self.room.get_mut(self.count..end) {
+            Some(places) => {
+                places.copy_from_slice(bytes);
+                self.count = end;
+            }
+            None => self.phase = Phase::Fault(TOO_LONG),
+        }
+    }
+
     #[inline]
     fn collect(&mut self, byte: u8) {
         match self.room.get_mut(self.count) {
@@ -152,7 +183,7 @@ pub fn answers(stream: &[u8]) -> Vec<Kept> {
 #[cfg(test)]
 mod tests {
     use super::*;
-    use crate::recording::{between_flags, framed};
+    use crate::recording::{between_flags, framed, mixed};
     use crate::vectors::HEARTBEAT;
     use crate::xorshift::Xorshift;
 
@@ -276,6 +307,30 @@ mod tests {
         let [low, high] = check_sequence(&HEARTBEAT).to_le_bytes();
         let swapped = [&HEARTBEAT[..], &[high, low]].concat();
         assert_eq!(numbers(&between_flags(&swapped)), [5]);
+    }
+
+    /// Whole stretches between flags, and cut where it may be.
+    #[test]
+    fn extending_is_pushing_each_byte() {
+        let mut random = Xorshift::new(17);
+        for round in 0..200 {
+            let stream = mixed(&mut random, 10_000);
+            let mut collector = Collector::new();
+            let mut kept = Vec::new();
+            let mut at = 0;
+            for stretch in stream.split_inclusive(|&byte| byte == FLAG) {
+                at += stretch.len();
+                let flag = stretch.ends_with(&[FLAG]);
+                let bytes = &stretch[..stretch.len() - usize::from(flag)];
+                let (front, behind) = bytes.split_at(random.below(bytes.len() + 1));
+                collector.extend(front);
+                collector.extend(behind);
+                if flag {
+                    kept.extend(Kept::new(at - 1, collector.push(FLAG)));
+                }
+            }
+            assert_eq!(kept, answers(&stream), "round {round}");
+        }
     }
 
     #[test]

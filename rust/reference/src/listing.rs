@@ -74,20 +74,13 @@ impl Lister {
         for stretch in bytes.split_inclusive(|&byte| byte == FLAG) {
             self.taken += stretch.len() as u64;
             let [before @ .., FLAG] = stretch else {
-                self.collect(stretch);
+                self.collector.extend(stretch);
                 break;
             };
-            self.collect(before);
+            self.collector.extend(before);
             self.close(out)?;
         }
         Ok(())
-    }
-
-    /// Bytes without a flag, which have no answer.
-    fn collect(&mut self, bytes: &[u8]) {
-        for &byte in bytes {
-            self.collector.push(byte);
-        }
     }
 
     /// The line of what the flag closes. Nothing between two flags has none.
