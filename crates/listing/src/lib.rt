@@ -327,16 +327,33 @@ fn put_field(out: &mut [u8], at: usize, shown: bool, n: u64, behind: u8) -> usiz
     at + 2
 }
 
-// Writes n in decimal from `at` on, and answers the place behind it.
+// Writes n in decimal from `at` on, the last digit first, and answers the place behind it.
 fn put_decimal(out: &mut [u8], at: usize, n: u64) -> usize
     requires { ⌜ at + length (decimal n) ≤ length (now out) ⌝ }
     ensures { λ r. ⌜ Stored (now (out .entry)) at (decimal n) r (now (out .exit)) ⌝ }
 {
-    if n < 10 {
-        out[at] = b'0' + n as u8;
-        return at + 1;
+    let end = at + digit_count(n);
+    let mut rest = n;
+    let mut p = end - 1;
+    while 10 <= rest {
+        out[p] = b'0' + (rest % 10) as u8;
+        rest = rest / 10;
+        p -= 1;
     }
-    let end = put_decimal(out, at, n / 10);
-    out[end] = b'0' + (n % 10) as u8;
-    end + 1
+    out[p] = b'0' + rest as u8;
+    end
+}
+
+// How many digits n has. The unit of each is found by a multiplication: a division takes longer.
+fn digit_count(n: u64) -> usize
+    ensures { λ r. ⌜ r ≡ length (decimal n) ⌝ }
+{
+    let tenth = n / 10;
+    let mut count = 1;
+    let mut unit: u64 = 1;
+    while unit <= tenth {
+        count += 1;
+        unit *= 10;
+    }
+    count
 }
