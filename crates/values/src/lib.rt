@@ -1,2 +1,2 @@
-// 01's starred values, held against the definitions of every layer.
+// 01's values, held against the definitions of every layer.
 // There is no code here, only the table (specs/) and its proof (proofs/).
