@@ -82,16 +82,15 @@ static uint8_t print_geometric(const uint8_t *message, size_t length)
     return read.number;
 }
 
-static uint8_t print_report(const uint8_t *message, size_t length)
+static uint8_t print_report(const char *word, struct gdl90_report_read read)
 {
     static const char *const tracks[] = {"track not valid", "true track", "magnetic heading", "true heading"};
-    struct gdl90_report_read read = gdl90_read_report(message, length);
     struct gdl90_report r = read.report;
     struct gdl90_degrees_answer at = gdl90_degrees(r.latitude, r.longitude);
 
     if (read.number != 0)
         return read.number;
-    printf("%s: %06lX ", message[0] == GDL90_OWNSHIP ? "ownship" : "traffic", (unsigned long)r.address);
+    printf("%s: %06lX ", word, (unsigned long)r.address);
     for (int i = 0; i < 8; i++) /* a call sign may hold any bytes, and no zero ends it */
         putchar(r.call_sign[i] >= ' ' && r.call_sign[i] <= '~' ? r.call_sign[i] : '?');
     if (r.position_mark == GDL90_NUMBER)
@@ -148,9 +147,9 @@ static uint8_t print_kind(const uint8_t *message, size_t length)
     case GDL90_INITIALIZATION: return print_initialization(message, length);
     case GDL90_UPLINK: return print_uplink(message, length);
     case GDL90_HEIGHT: return print_height(message, length);
-    case GDL90_OWNSHIP: return print_report(message, length);
+    case GDL90_OWNSHIP: return print_report("ownship", gdl90_read_ownship(message, length));
     case GDL90_GEOMETRIC: return print_geometric(message, length);
-    case GDL90_TRAFFIC: return print_report(message, length);
+    case GDL90_TRAFFIC: return print_report("traffic", gdl90_read_traffic(message, length));
     case GDL90_BASIC: return print_basic(message, length);
     case GDL90_LONG: return print_long(message, length);
     default: return 6;

@@ -197,8 +197,9 @@ struct gdl90_heartbeat_read gdl90_read_heartbeat(const uint8_t *message, size_t 
 struct gdl90_initialization_read gdl90_read_initialization(const uint8_t *message, size_t message_len);
 struct gdl90_uplink_read gdl90_read_uplink(const uint8_t *message, size_t message_len);
 struct gdl90_height_read gdl90_read_height(const uint8_t *message, size_t message_len);
-struct gdl90_report_read gdl90_read_report(const uint8_t *message, size_t message_len); /* an ownship's or of traffic */
+struct gdl90_report_read gdl90_read_ownship(const uint8_t *message, size_t message_len);
 struct gdl90_geometric_read gdl90_read_geometric(const uint8_t *message, size_t message_len);
+struct gdl90_report_read gdl90_read_traffic(const uint8_t *message, size_t message_len);
 struct gdl90_basic_read gdl90_read_basic(const uint8_t *message, size_t message_len);
 struct gdl90_long_read gdl90_read_long(const uint8_t *message, size_t message_len);
 

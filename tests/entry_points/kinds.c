@@ -41,10 +41,8 @@ static void reads_height(const uint8_t *message, size_t length, uint8_t number, 
     CHECK_I16(read.height.height, want->height.height);
 }
 
-static void reads_report(const uint8_t *message, size_t length, uint8_t number, const union value *want)
+static void check_report(struct gdl90_report_read read, uint8_t number, const union value *want)
 {
-    struct gdl90_report_read read = gdl90_read_report(message, length);
-
     CHECK_U8(read.number, number);
     CHECK_U8(read.report.alert, want->report.alert);
     CHECK_U8(read.report.address_type, want->report.address_type);
@@ -69,6 +67,16 @@ static void reads_report(const uint8_t *message, size_t length, uint8_t number, 
     CHECK_BYTES(read.report.call_sign, want->report.call_sign, 8);
     CHECK_U8(read.report.priority, want->report.priority);
     CHECK_U8(read.report.spare, want->report.spare);
+}
+
+static void reads_ownship(const uint8_t *message, size_t length, uint8_t number, const union value *want)
+{
+    check_report(gdl90_read_ownship(message, length), number, want);
+}
+
+static void reads_traffic(const uint8_t *message, size_t length, uint8_t number, const union value *want)
+{
+    check_report(gdl90_read_traffic(message, length), number, want);
 }
 
 static void reads_geometric(const uint8_t *message, size_t length, uint8_t number, const union value *want)
@@ -160,9 +168,9 @@ const struct kind HEARTBEAT = {0, 0, reads_heartbeat, write_heartbeat};
 const struct kind INITIALIZATION = {2, 2, reads_initialization, write_initialization};
 const struct kind UPLINK = {7, 7, reads_uplink, write_uplink};
 const struct kind HEIGHT = {9, 9, reads_height, write_height};
-const struct kind OWNSHIP = {10, 20, reads_report, write_ownship};
+const struct kind OWNSHIP = {10, 20, reads_ownship, write_ownship};
 const struct kind GEOMETRIC = {11, 11, reads_geometric, write_geometric};
-const struct kind TRAFFIC = {20, 10, reads_report, write_traffic};
+const struct kind TRAFFIC = {20, 10, reads_traffic, write_traffic};
 const struct kind BASIC = {30, 30, reads_basic, write_basic};
 const struct kind LONG = {31, 31, reads_long, write_long};
 

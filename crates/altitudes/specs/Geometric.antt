@@ -61,7 +61,7 @@ geometricRefused k = record {
 }
 
 abbrev pub geometricRead : List ℕ → GeometricRead
-geometricRead = reading 5 geometricIn goodGeometric (λ x. record { number = 0; geometric = x }) geometricRefused
+geometricRead = reading 11 5 geometricIn goodGeometric (λ x. record { number = 0; geometric = x }) geometricRefused
 
 abbrev pub readGeometric : List ℕ → Reading
-readGeometric = reading 5 geometricIn goodGeometric (λ x. Message (kind.Geometric x)) Refused
+readGeometric = reading 11 5 geometricIn goodGeometric (λ x. Message (kind.Geometric x)) Refused

@@ -42,7 +42,7 @@ heightRefused k = record { number = k; height = record { height = Feet (record {
 
 -- 01's number with the value, and the same as a message of whatever kind
 abbrev pub heightRead : List ℕ → HeightRead
-heightRead = reading 3 terrainIn goodTerrain (λ x. record { number = 0; height = x }) heightRefused
+heightRead = reading 9 3 terrainIn goodTerrain (λ x. record { number = 0; height = x }) heightRefused
 
 abbrev pub readTerrain : List ℕ → Reading
-readTerrain = reading 3 terrainIn goodTerrain (λ x. Message (kind.Height x)) Refused
+readTerrain = reading 9 3 terrainIn goodTerrain (λ x. Message (kind.Height x)) Refused

@@ -20,12 +20,12 @@ use units::TerrainFeet;
 // The mark of a merit over 32,766 metres (01).
 const OVER_MERIT: u16 = 0x7EEE;
 
-// The bytes of a message whose id is 9.
 pub fn read_height(message: &[u8]) -> HeightRead
     ensures { λ r. ⌜ r ≡ heightRead (now (message .entry)) ⌝ }
 {
-    if message.len() != HeightAboveTerrain::LENGTH {
-        return height_refused(7);
+    let misfit = fields::misfit(message, HeightAboveTerrain::ID, HeightAboveTerrain::LENGTH);
+    if misfit != 0 {
+        return height_refused(misfit);
     }
     let value = terrain_in(message);
     let height = value.height;
@@ -128,12 +128,12 @@ fn height_bytes(value: HeightAboveTerrain) -> [u8; 3]
     [HeightAboveTerrain::ID, (n / 256) as u8, (n % 256) as u8]
 }
 
-// The bytes of a message whose id is 11.
 pub fn read_geometric(message: &[u8]) -> GeometricRead
     ensures { λ r. ⌜ r ≡ geometricRead (now (message .entry)) ⌝ }
 {
-    if message.len() != GeometricAltitude::LENGTH {
-        return geometric_refused(7);
+    let misfit = fields::misfit(message, GeometricAltitude::ID, GeometricAltitude::LENGTH);
+    if misfit != 0 {
+        return geometric_refused(misfit);
     }
     let geometric = geometric_in(message);
     let merit = geometric.merit;

@@ -14,7 +14,7 @@ use Rattle.numbers.specs.Lent.{written}
 use Rattle.numbers.proofs.Storing.{from-first}
 use Rattle.fields.specs.declared.Written.{Written}
 use Rattle.fields.specs.declared.Written.the-variants.{Bytes, Refused}
-use Rattle.fields.specs.Reading.{reading}
+use Rattle.fields.specs.Reading.{misfit, reading}
 use Rattle.fields.specs.Writing.{writing, Wrote}
 
 pub no-room : (bytes out : List ℕ) → length out < length bytes → Wrote true bytes out (Refused 9) out
@@ -43,27 +43,48 @@ pub refused : (good : Bool) (bytes out : List ℕ) → good ≡ false → Wrote 
 unfolding writing written
 refused good bytes out g = record { answers = simp g; leaves = refl }
 
-module _ {X R : Type 0} (size : ℕ) (value : List ℕ → X) (good : X → Bool) (accepted : X → R) (refusal : ℕ → R) (m : List ℕ) where
-  -- what is accepted has the size, and is the good value that the bytes hold
-  pub read-only : (z : R) → ((k : ℕ) → refusal k ≡ z → ⊥) → reading size value good accepted refusal m ≡ z
-      → (length m ≡ size) × (good (value m) ≡ true) × (accepted (value m) ≡ z)
+-- what is no misfit has the id and the length
+pub fits : (id size : ℕ) (m : List ℕ) → misfit id size m ≡ 0 → (getD m 0 0 ≡ id) × (length m ≡ size)
+unfolding misfit
+fits id size m = go (eqb (length m) 0) (eqb (getD m 0 0) id) refl (eqb (length m) size) refl
+  where
+    go : (s t : Bool) → eqb (getD m 0 0) id ≡ t → (u : Bool) → eqb (length m) size ≡ u → _≡_ {A = ℕ} (cond s 6 (cond t (cond u 0 7) 6)) 0
+        → (getD m 0 0 ≡ id) × (length m ≡ size)
+    go false true e true f z = (eqb-true _ _ e, eqb-true _ _ f)
+    go true t e u f z = absurd (omega arith)
+    go false false e u f z = absurd (omega arith)
+    go false true e false f z = absurd (omega arith)
+
+module _ {X R : Type 0} (id size : ℕ) (value : List ℕ → X) (good : X → Bool) (accepted : X → R) (refusal : ℕ → R) (m : List ℕ) where
+  -- what is accepted has the id and the length, and is the good value that the bytes hold
+  pub read-only : (z : R) → ((k : ℕ) → refusal k ≡ z → ⊥) → reading id size value good accepted refusal m ≡ z
+      → ((getD m 0 0 ≡ id) × (length m ≡ size)) × (good (value m) ≡ true) × (accepted (value m) ≡ z)
   unfolding reading
-  read-only z never = go (eqb (length m) size) refl (good (value m)) refl
+  read-only z never = go (eqb (misfit id size m) 0) refl (good (value m)) refl
     where
-      go : (t : Bool) → eqb (length m) size ≡ t → (u : Bool) → good (value m) ≡ u → cond t (cond u (accepted (value m)) (refusal 8)) (refusal 7) ≡ z
-          → (length m ≡ size) × (good (value m) ≡ true) × (accepted (value m) ≡ z)
-      go true e true g h = (eqb-true (length m) size e, g, h)
+      go : (t : Bool) → eqb (misfit id size m) 0 ≡ t → (u : Bool) → good (value m) ≡ u
+          → cond t (cond u (accepted (value m)) (refusal 8)) (refusal (misfit id size m)) ≡ z
+          → ((getD m 0 0 ≡ id) × (length m ≡ size)) × (good (value m) ≡ true) × (accepted (value m) ≡ z)
+      go true e true g h = (fits id size m (eqb-true _ 0 e), g, h)
       go true e false g h = absurd (never 8 h)
-      go false e u g h = absurd (never 7 h)
+      go false e u g h = absurd (never _ h)
+
+  -- the tests apart
+  abbrev pick : {S : Type 0} → (X → S) → (ℕ → S) → Bool → Bool → Bool → Bool → S
+  pick taken left s t u v =
+      cond (eqb (cond s 6 (cond t (cond u 0 7) 6)) 0) (cond v (taken (value m)) (left 8)) (left (cond s 6 (cond t (cond u 0 7) 6)))
 
   -- what is made of the answer
-  pub made : {S : Type 0} (taken : X → S) (left : ℕ → S) {r : R} (h : R → S) → r ≡ reading size value good accepted refusal m
-      → ((x : X) → h (accepted x) ≡ taken x) → h (refusal 7) ≡ left 7 → h (refusal 8) ≡ left 8 → h r ≡ reading size value good taken left m
-  unfolding reading
-  made taken left h e a b c = ap h e ∙ go (eqb (length m) size) (good (value m))
+  pub made : {S : Type 0} (taken : X → S) (left : ℕ → S) {r : R} (h : R → S) → r ≡ reading id size value good accepted refusal m
+      → ((x : X) → h (accepted x) ≡ taken x) → h (refusal 6) ≡ left 6 → h (refusal 7) ≡ left 7 → h (refusal 8) ≡ left 8
+      → h r ≡ reading id size value good taken left m
+  unfolding reading misfit
+  made taken left h e a no-kind no-length no-range =
+      ap h e ∙ go (eqb (length m) 0) (eqb (getD m 0 0) id) (eqb (length m) size) (good (value m))
     where
-      go : (t u : Bool) → h (cond t (cond u (accepted (value m)) (refusal 8)) (refusal 7)) ≡ cond t (cond u (taken (value m)) (left 8)) (left 7)
-      go true true = a (value m)
-      go true false = c
-      go false true = b
-      go false false = b
+      go : (s t u v : Bool) → h (pick accepted refusal s t u v) ≡ pick taken left s t u v
+      go true t u v = no-kind
+      go false false u v = no-kind
+      go false true false v = no-length
+      go false true true true = a (value m)
+      go false true true false = no-range

@@ -6,17 +6,17 @@ ghost use Rattle.fcs.specs.Fcs.{fcs};
 ghost use Rattle.framing.specs.Framing.{framing, output};
 ghost use Rattle.collecting.specs.Step.{held};
 ghost use Rattle.collecting.specs.Stream.{run};
-ghost use Rattle.status.specs.Heartbeat.{goodHeartbeat, heartbeatBytes};
-ghost use Rattle.status.specs.Initialization.{goodInitialization, initializationBytes};
+ghost use Rattle.status.specs.Heartbeat.{goodHeartbeat, heartbeatBytes, heartbeatRead};
+ghost use Rattle.status.specs.Initialization.{goodInitialization, initializationBytes, initializationRead};
 ghost use Rattle.altitudes.specs.Height.{goodTerrain, terrainBytes};
 ghost use Rattle.altitudes.specs.Geometric.{goodGeometric, geometricBytes};
 ghost use Rattle.passing.specs.Uplink.{uplinkBytes, writingUplink};
 ghost use Rattle.passing.specs.PassThrough.{goodBasicPassThrough, basicPassThroughBytes, goodLongPassThrough, longPassThroughBytes};
-ghost use Rattle.report.specs.Bytes.{reportBytes};
+ghost use Rattle.report.specs.Bytes.{ownshipBytes, trafficBytes};
+ghost use Rattle.report.specs.Reading.{ownshipRead, trafficRead};
 ghost use Rattle.flat.specs.Flat.{uplinkFrom, terrainFrom, geometricFrom, basicFrom, longFrom};
-ghost use Rattle.flat_report.specs.Flat.{reportFrom};
-ghost use Rattle.face.specs.Answers.{ofKind, ofReport, heartbeatAnswer, initializationAnswer, uplinkAnswer, heightAnswer, reportAnswer, geometricAnswer, basicAnswer, longAnswer};
-ghost use Rattle.face.specs.Answers.{AnsweredBy, AnsweredWriting, goodFlatReport};
+ghost use Rattle.face.specs.Answers.{uplinkAnswer, heightAnswer, geometricAnswer, basicAnswer, longAnswer};
+ghost use Rattle.face.specs.Answers.{AnsweredBy, AnsweredWriting, ownshipFrom, trafficFrom, goodFlatReport};
 ghost use Rattle.uplink.specs.Walk.{listing};
 ghost use Rattle.uplink.specs.Answers.{counted, numbered};
 ghost use Rattle.uplink.specs.Adding.{adding, addedNumber, payloadAfter};
@@ -46,8 +46,6 @@ use kinds::Heartbeat;
 use kinds::HeartbeatRead;
 use kinds::Initialization;
 use kinds::InitializationRead;
-use kinds::Ownship;
-use kinds::Traffic;
 use units::GeometricSteps;
 use units::InDegrees;
 use units::PressureSteps;
@@ -219,57 +217,63 @@ fn message_length(answer: Answer) -> usize
 // A message of one kind: 01's number, 6 also for another kind's id; the struct, all zero with a refusal.
 #[no_mangle]
 pub extern "C" fn gdl90_read_heartbeat(message: &[u8]) -> HeartbeatRead
-    ensures { λ r. ⌜ r ≡ heartbeatAnswer (ofKind 0 (now (message .entry))) ⌝ }
+    ensures { λ r. ⌜ r ≡ heartbeatRead (now (message .entry)) ⌝ }
 {
-    face::read_heartbeat(message)
+    status::read_heartbeat(message)
 }
 
 #[no_mangle]
 pub extern "C" fn gdl90_read_initialization(message: &[u8]) -> InitializationRead
-    ensures { λ r. ⌜ r ≡ initializationAnswer (ofKind 2 (now (message .entry))) ⌝ }
+    ensures { λ r. ⌜ r ≡ initializationRead (now (message .entry)) ⌝ }
 {
-    face::read_initialization(message)
+    status::read_initialization(message)
 }
 
 #[no_mangle]
 pub extern "C" fn gdl90_read_uplink(message: &[u8]) -> FlatUplinkRead
-    ensures { λ r. ⌜ r ≡ uplinkAnswer (ofKind 7 (now (message .entry))) ⌝ }
+    ensures { λ r. ⌜ r ≡ uplinkAnswer (now (message .entry)) ⌝ }
 {
     face::read_uplink(message)
 }
 
 #[no_mangle]
 pub extern "C" fn gdl90_read_height(message: &[u8]) -> FlatHeightRead
-    ensures { λ r. ⌜ r ≡ heightAnswer (ofKind 9 (now (message .entry))) ⌝ }
+    ensures { λ r. ⌜ r ≡ heightAnswer (now (message .entry)) ⌝ }
 {
     face::read_height(message)
 }
 
-// An ownship's or a traffic report, by its id.
 #[no_mangle]
-pub extern "C" fn gdl90_read_report(message: &[u8]) -> FlatReportRead
-    ensures { λ r. ⌜ r ≡ reportAnswer (ofReport (now (message .entry))) ⌝ }
+pub extern "C" fn gdl90_read_ownship(message: &[u8]) -> FlatReportRead
+    ensures { λ r. ⌜ r ≡ ownshipRead (now (message .entry)) ⌝ }
 {
-    face::read_report(message)
+    report::read_ownship(message)
 }
 
 #[no_mangle]
 pub extern "C" fn gdl90_read_geometric(message: &[u8]) -> FlatGeometricRead
-    ensures { λ r. ⌜ r ≡ geometricAnswer (ofKind 11 (now (message .entry))) ⌝ }
+    ensures { λ r. ⌜ r ≡ geometricAnswer (now (message .entry)) ⌝ }
 {
     face::read_geometric(message)
 }
 
 #[no_mangle]
+pub extern "C" fn gdl90_read_traffic(message: &[u8]) -> FlatReportRead
+    ensures { λ r. ⌜ r ≡ trafficRead (now (message .entry)) ⌝ }
+{
+    report::read_traffic(message)
+}
+
+#[no_mangle]
 pub extern "C" fn gdl90_read_basic(message: &[u8]) -> FlatBasicRead
-    ensures { λ r. ⌜ r ≡ basicAnswer (ofKind 30 (now (message .entry))) ⌝ }
+    ensures { λ r. ⌜ r ≡ basicAnswer (now (message .entry)) ⌝ }
 {
     face::read_basic(message)
 }
 
 #[no_mangle]
 pub extern "C" fn gdl90_read_long(message: &[u8]) -> FlatLongRead
-    ensures { λ r. ⌜ r ≡ longAnswer (ofKind 31 (now (message .entry))) ⌝ }
+    ensures { λ r. ⌜ r ≡ longAnswer (now (message .entry)) ⌝ }
 {
     face::read_long(message)
 }
@@ -312,9 +316,9 @@ pub extern "C" fn gdl90_write_height(height: FlatHeight, out: &mut [u8]) -> Writ
 
 #[no_mangle]
 pub extern "C" fn gdl90_write_ownship(report: FlatReport, out: &mut [u8]) -> WriteAnswer
-    ensures { λ r. ⌜ AnsweredWriting (goodFlatReport report) (reportBytes 10 (reportFrom report)) (now (out .entry)) r (now (out .exit)) ⌝ }
+    ensures { λ r. ⌜ AnsweredWriting (goodFlatReport report) (ownshipBytes (ownshipFrom report)) (now (out .entry)) r (now (out .exit)) ⌝ }
 {
-    face::write_report(Ownship::ID, report, out)
+    face::write_ownship(report, out)
 }
 
 #[no_mangle]
@@ -326,9 +330,9 @@ pub extern "C" fn gdl90_write_geometric(geometric: FlatGeometric, out: &mut [u8]
 
 #[no_mangle]
 pub extern "C" fn gdl90_write_traffic(report: FlatReport, out: &mut [u8]) -> WriteAnswer
-    ensures { λ r. ⌜ AnsweredWriting (goodFlatReport report) (reportBytes 20 (reportFrom report)) (now (out .entry)) r (now (out .exit)) ⌝ }
+    ensures { λ r. ⌜ AnsweredWriting (goodFlatReport report) (trafficBytes (trafficFrom report)) (now (out .entry)) r (now (out .exit)) ⌝ }
 {
-    face::write_report(Traffic::ID, report, out)
+    face::write_traffic(report, out)
 }
 
 #[no_mangle]

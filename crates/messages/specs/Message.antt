@@ -20,8 +20,8 @@ use Rattle.altitudes.specs.Height.{goodTerrain, terrainBytes, readTerrain}
 use Rattle.altitudes.specs.Geometric.{goodGeometric, geometricBytes, readGeometric}
 use Rattle.passing.specs.Uplink.{goodUplink, uplinkBytes, readUplink}
 use Rattle.passing.specs.PassThrough.{goodBasicPassThrough, basicPassThroughBytes, readBasicPassThrough, goodLongPassThrough, longPassThroughBytes, readLongPassThrough}
-use Rattle.report.specs.Bytes.{reportBytes}
-use Rattle.report.specs.Reading.{goodReport, readReport}
+use Rattle.report.specs.Bytes.{ownshipBytes, trafficBytes}
+use Rattle.report.specs.Reading.{goodReport, readOwnship, readTraffic}
 use Rattle.messages.specs.declared.Kind.{Kind}
 use Rattle.messages.specs.declared.Kind.the-variants as kind
 
@@ -43,14 +43,14 @@ readAs kind.Heartbeat m = readHeartbeat m
 readAs kind.Initialization m = readInitialization m
 readAs kind.Uplink m = readUplink m
 readAs kind.Height m = readTerrain m
-readAs kind.Ownship m = readReport 10 m
+readAs kind.Ownship m = readOwnship m
 readAs kind.Geometric m = readGeometric m
-readAs kind.Traffic m = readReport 20 m
+readAs kind.Traffic m = readTraffic m
 readAs kind.Basic m = readBasicPassThrough m
 readAs kind.Long m = readLongPassThrough m
 readAs kind.Unknown m = Refused 6
 
--- 6 for an empty message or an id that is not in the list; then 7 and 8 as of the kind
+-- 6 for an empty message or an id that is not in the list; else as of the kind
 unfoldable pub readMessage : List ℕ → Reading
 readMessage m = cond (eqb (length m) 0) (Refused 6) (readAs (kindOf (getD m 0 0)) m)
 
@@ -69,9 +69,9 @@ messageBytes (Heartbeat x) payload = heartbeatBytes x
 messageBytes (Initialization x) payload = initializationBytes x
 messageBytes (Uplink x) payload = uplinkBytes x payload
 messageBytes (Height x) payload = terrainBytes x
-messageBytes (Ownship x) payload = reportBytes 10 (x .report)
+messageBytes (Ownship x) payload = ownshipBytes x
 messageBytes (Geometric x) payload = geometricBytes x
-messageBytes (Traffic x) payload = reportBytes 20 (x .report)
+messageBytes (Traffic x) payload = trafficBytes x
 messageBytes (Basic x) payload = basicPassThroughBytes x
 messageBytes (Long x) payload = longPassThroughBytes x
 

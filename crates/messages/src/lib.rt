@@ -80,7 +80,7 @@ fn read_as(kind: Kind, message: &[u8]) -> Reading
             as_reading(read.number, Message::Height(height))
         }
         Kind::Ownship => {
-            let read = report::read_report(message);
+            let read = report::read_ownship(message);
             let flat = read.report;
             let report = flat_report::report_from(flat);
             as_reading(read.number, Message::Ownship(Ownship { report }))
@@ -91,7 +91,7 @@ fn read_as(kind: Kind, message: &[u8]) -> Reading
             as_reading(read.number, Message::Geometric(geometric))
         }
         Kind::Traffic => {
-            let read = report::read_report(message);
+            let read = report::read_traffic(message);
             let flat = read.report;
             let report = flat_report::report_from(flat);
             as_reading(read.number, Message::Traffic(Traffic { report }))
@@ -129,15 +129,9 @@ pub fn write(message: Message, payload: &[u8], out: &mut [u8]) -> Written
         Message::Initialization(x) => status::write_initialization(x, out),
         Message::Uplink(x) => passing::write_uplink(x, payload, out),
         Message::Height(x) => altitudes::write_height(x, out),
-        Message::Ownship(x) => {
-            let r = x.report;
-            report::write_report(Ownship::ID, r, out)
-        }
+        Message::Ownship(x) => report::write_ownship(x, out),
         Message::Geometric(x) => altitudes::write_geometric(x, out),
-        Message::Traffic(x) => {
-            let r = x.report;
-            report::write_report(Traffic::ID, r, out)
-        }
+        Message::Traffic(x) => report::write_traffic(x, out),
         Message::Basic(x) => passing::write_basic_pass_through(x, out),
         Message::Long(x) => passing::write_long_pass_through(x, out),
     }

@@ -1,34 +1,36 @@
 -- Laws of the uplink.
 -- Assumes nothing.
-use mathlib.Core.Path.{_≡_, refl}
-use mathlib.Core.Bool.{Bool, true, false}
+use mathlib.Core.Path.{_≡_, refl, sym, ap, _∙_}
+use mathlib.Core.Bool.{Bool, true, false, cond}
 use Prim.Native.Nat.{ℕ}
 use mathlib.Core.List.{List}
 use native.Mathlib.Omega.{arith}
 use lib.Dec.{eqb}
 use lib.ListN.{length}
-use borrow.Author.Tests.{eqb-true, eq-eqb, ne-eqb}
+use borrow.Author.Tests.{eqb-true, eqb-false, eq-eqb, ne-eqb}
 use Rattle.numbers.specs.Lent.{written}
 use Rattle.fields.specs.declared.Written.{Written}
 use Rattle.fields.specs.declared.Written.the-variants.{Refused as RefusedWriting}
-use Rattle.fields.specs.Reading.{reading}
+use Rattle.fields.specs.Reading.{misfit, reading}
+use Rattle.fields.proofs.Outcomes.{fits}
+use Rattle.kinds.specs.declared.Reception.the-variants.{Steps}
+use Rattle.passing.specs.Reception.{receptionIn}
 use Rattle.fields.specs.Writing.{Wrote}
 use Rattle.kinds.specs.declared.Uplink.{Uplink}
 use Rattle.kinds.specs.declared.UplinkRead.{UplinkRead}
-use Rattle.passing.specs.Uplink.{goodUplink, uplinkBytes, uplinkRead, payloadOf, writingUplink, WroteUplink}
+use Rattle.passing.specs.Uplink.{uplinkIn, goodUplink, uplinkBytes, uplinkAnswer, uplinkRead, payloadOf, writingUplink, WroteUplink}
 use Rattle.passing.specs.Claims.{UplinkWrittenRead, UplinkReadWritten}
 use Rattle.passing.proofs.Receptions.{kept, whole-drop}
 
 -- what is read as an uplink is as long as one
 pub sized : (m : List ℕ) {r : UplinkRead} → r ≡ uplinkRead m → r .number ≡ 0 → length m ≡ 436
 unfolding reading
-sized m e f = go (eqb (length m) 436) refl
+sized m e f = go (eqb (misfit 7 436 m) 0) refl (ap (λ (x : UplinkRead). x .number) (sym e) ∙ f)
   where
-    go : (b : Bool) → eqb (length m) 436 ≡ b → length m ≡ 436
-    go true p = eqb-true (length m) 436 p
-    go false p =
-        let r = simp p at e in
-        let z : _≡_ {A = ℕ} 7 0 = cc in omega arith
+    go : (b : Bool) → eqb (misfit 7 436 m) 0 ≡ b
+        → cond b (cond (goodUplink (uplinkIn m)) (uplinkAnswer 0 (receptionIn m)) (uplinkAnswer 8 (Steps 0))) (uplinkAnswer (misfit 7 436 m) (Steps 0)) .number ≡ 0 → length m ≡ 436
+    go true p z = fits 7 436 m (eqb-true _ 0 p) .1
+    go false p z = absurd (eqb-false _ 0 p z)
 
 module _ (u : Uplink) (payload out : List ℕ) where
   pub other-size : (length payload ≡ 432 → ⊥) → WroteUplink u payload out (RefusedWriting 7) out
@@ -40,11 +42,11 @@ module _ (u : Uplink) (payload out : List ℕ) where
   right-size h w = record { answers = simp (eq-eqb (length payload) 432 h) (w .answers); leaves = w .leaves }
 
 pub written-read : UplinkWrittenRead
-unfolding payloadOf reading
+unfolding payloadOf reading misfit
 written-read u payload g h =
     let e = kept 7 (u .reception) payload g in
     let long : length (uplinkBytes u payload) ≡ 436 = omega arith in
-    (simp e, simp (eq-eqb _ 436 long, e, g))
+    (simp e, simp (ne-eqb (length (uplinkBytes u payload)) 0 (λ z. omega arith), eq-eqb _ 436 long, e, g))
 
 pub read-written : UplinkReadWritten
 read-written m long bytes id = whole-drop 432 m long 7 bytes id

@@ -43,10 +43,10 @@ basicRefused k = record { number = k; basic = record { reception = Steps 0; a = 
 
 -- 01's number with the value, and the same as a message of whatever kind
 abbrev pub basicRead : List ℕ → BasicRead
-basicRead = reading 22 basicPassThroughIn goodBasicPassThrough (λ p. record { number = 0; basic = p }) basicRefused
+basicRead = reading 30 22 basicPassThroughIn goodBasicPassThrough (λ p. record { number = 0; basic = p }) basicRefused
 
 abbrev pub readBasicPassThrough : List ℕ → Reading
-readBasicPassThrough = reading 22 basicPassThroughIn goodBasicPassThrough (λ p. Message (kind.Basic p)) Refused
+readBasicPassThrough = reading 30 22 basicPassThroughIn goodBasicPassThrough (λ p. Message (kind.Basic p)) Refused
 
 unfoldable pub longPassThroughIn : List ℕ → LongPassThrough
 longPassThroughIn m = record {
@@ -75,7 +75,7 @@ longRefused k = record {
 }
 
 abbrev pub longRead : List ℕ → LongRead
-longRead = reading 38 longPassThroughIn goodLongPassThrough (λ p. record { number = 0; long = p }) longRefused
+longRead = reading 31 38 longPassThroughIn goodLongPassThrough (λ p. record { number = 0; long = p }) longRefused
 
 abbrev pub readLongPassThrough : List ℕ → Reading
-readLongPassThrough = reading 38 longPassThroughIn goodLongPassThrough (λ p. Message (kind.Long p)) Refused
+readLongPassThrough = reading 31 38 longPassThroughIn goodLongPassThrough (λ p. Message (kind.Long p)) Refused

@@ -2,10 +2,10 @@
 -- Assumes nothing.
 use mathlib.Core.Path.{_≡_}
 use Prim.Native.Nat.{ℕ}
-use mathlib.Core.Bool.{Bool, cond, _&&_}
+use mathlib.Core.Bool.{Bool, cond}
 use mathlib.Core.List.{List, []}
 use lib.Dec.{eqb}
-use lib.ListN.{length, drop, getD}
+use lib.ListN.{length, drop}
 use Rattle.numbers.specs.Lent.{written}
 use Rattle.fields.specs.Reading.{reading}
 use Rattle.fields.specs.declared.Written.{Written}
@@ -34,14 +34,14 @@ uplinkAnswer k r = record { number = k; uplink = record { reception = r } }
 
 -- 01's number with the value, and the same as a message of whatever kind
 abbrev pub uplinkRead : List ℕ → UplinkRead
-uplinkRead = reading 436 uplinkIn goodUplink (λ u. record { number = 0; uplink = u }) (λ k. uplinkAnswer k (Steps 0))
+uplinkRead = reading 7 436 uplinkIn goodUplink (λ u. record { number = 0; uplink = u }) (λ k. uplinkAnswer k (Steps 0))
 
 abbrev pub readUplink : List ℕ → Reading
-readUplink = reading 436 uplinkIn goodUplink (λ u. Message (kind.Uplink u)) Refused
+readUplink = reading 7 436 uplinkIn goodUplink (λ u. Message (kind.Uplink u)) Refused
 
 -- the message from its fifth byte on, where it is an uplink
 unfoldable pub payloadOf : List ℕ → List ℕ
-payloadOf m = cond (eqb (uplinkRead m .number) 0 && eqb (getD m 0 0) 7) (drop 4 m) []
+payloadOf m = cond (eqb (uplinkRead m .number) 0) (drop 4 m) []
 
 -- 7 unless the payload has 432 bytes; then as every kind
 unfoldable pub writingUplink : Uplink → List ℕ → ℕ → Written

@@ -26,8 +26,9 @@ const NO_STEP: u32 = 0xFFFFFF;
 pub fn read_basic_pass_through(message: &[u8]) -> BasicRead
     ensures { λ r. ⌜ r ≡ basicRead (now (message .entry)) ⌝ }
 {
-    if message.len() != BasicPassThrough::LENGTH {
-        return basic_refused(7);
+    let misfit = fields::misfit(message, BasicPassThrough::ID, BasicPassThrough::LENGTH);
+    if misfit != 0 {
+        return basic_refused(misfit);
     }
     let basic = basic_in(message);
     let reception = basic.reception;
@@ -57,8 +58,9 @@ fn basic_refused(number: u8) -> BasicRead
 pub fn read_long_pass_through(message: &[u8]) -> LongRead
     ensures { λ r. ⌜ r ≡ longRead (now (message .entry)) ⌝ }
 {
-    if message.len() != LongPassThrough::LENGTH {
-        return long_refused(7);
+    let misfit = fields::misfit(message, LongPassThrough::ID, LongPassThrough::LENGTH);
+    if misfit != 0 {
+        return long_refused(misfit);
     }
     let long = long_in(message);
     let reception = long.reception;
@@ -90,8 +92,9 @@ fn long_refused(number: u8) -> LongRead
 pub fn read_uplink(message: &[u8]) -> UplinkRead
     ensures { λ r. ⌜ r ≡ uplinkRead (now (message .entry)) ⌝ }
 {
-    if message.len() != Uplink::LENGTH {
-        return uplink_answer(7, Reception::Steps(0));
+    let misfit = fields::misfit(message, Uplink::ID, Uplink::LENGTH);
+    if misfit != 0 {
+        return uplink_answer(misfit, Reception::Steps(0));
     }
     let reception = reception_in(message);
     if is_good_reception(reception) {
@@ -116,9 +119,6 @@ pub fn payload<'a>(message: &'a [u8]) -> &'a [u8]
 {
     let read = read_uplink(message);
     if read.number != 0 {
-        return &message[0..0];
-    }
-    if message[0] != Uplink::ID {
         return &message[0..0];
     }
     &message[4..]

@@ -11,7 +11,9 @@ use Rattle.flat_report.specs.Flat.{trackNumber, trackFrom}
 use Rattle.report.specs.Marks.{positionOf, placeOf, altitudeOf, stepsOr, bit, speedOf, knotsOr, climbOf, climbOr}
 use Rattle.kinds.specs.Bytes.{eightAt}
 use Rattle.report.specs.declared.Codes.{Codes}
+use Rattle.kinds.specs.declared.Ownship.{Ownship}
 use Rattle.kinds.specs.declared.Report.{Report}
+use Rattle.kinds.specs.declared.Traffic.{Traffic}
 
 abbrev pub three : ℕ → ℕ → ℕ → ℕ
 three a b c = a * 65536 + b * 256 + c
@@ -117,3 +119,10 @@ packed id r c =
 -- the report's bytes, with this id
 unfoldable pub reportBytes : ℕ → Report → List ℕ
 reportBytes id r = packed id r (codesOf r)
+
+-- each kind owns its id
+abbrev pub ownshipBytes : Ownship → List ℕ
+ownshipBytes x = reportBytes 10 (x .report)
+
+abbrev pub trafficBytes : Traffic → List ℕ
+trafficBytes x = reportBytes 20 (x .report)

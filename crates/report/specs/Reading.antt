@@ -14,7 +14,6 @@ use Rattle.kinds.specs.declared.Position.{Position}
 use Rattle.kinds.specs.declared.Report.{Report}
 use Rattle.flat_report.specs.declared.FlatReportRead.{FlatReportRead}
 use Rattle.flat_report.specs.Flat.{flatReport}
-use Rattle.kinds.specs.declared.Message.{Message}
 use Rattle.kinds.specs.declared.Message.the-variants.{Ownship, Traffic}
 use Rattle.kinds.specs.declared.Reading.{Reading}
 use Rattle.kinds.specs.declared.Reading.the-variants.{Message as accepted, Refused}
@@ -84,13 +83,19 @@ reportRefused k = record {
   };
 }
 
+-- once its id and length are those of an ownship or of traffic
+abbrev pub reportHeld : List ℕ → FlatReportRead
+reportHeld m = cond (goodReport (reportIn m)) (reportAccepted (reportIn m)) (reportRefused 8)
+
 -- 01's number with the value in numbers, and the typed value as a message of whatever kind
-abbrev pub reportRead : List ℕ → FlatReportRead
-reportRead = reading 28 reportIn goodReport reportAccepted reportRefused
+abbrev pub ownshipRead : List ℕ → FlatReportRead
+ownshipRead = reading 10 28 reportIn goodReport reportAccepted reportRefused
 
--- the id says whose report it is: 10, the ownship's
-unfoldable pub carriedBy : ℕ → Report → Message
-carriedBy id r = cond (eqb id 10) (Ownship (record { report = r })) (Traffic (record { report = r }))
+abbrev pub trafficRead : List ℕ → FlatReportRead
+trafficRead = reading 20 28 reportIn goodReport reportAccepted reportRefused
 
-abbrev pub readReport : ℕ → List ℕ → Reading
-readReport id = reading 28 reportIn goodReport (λ r. accepted (carriedBy id r)) Refused
+abbrev pub readOwnship : List ℕ → Reading
+readOwnship = reading 10 28 reportIn goodReport (λ r. accepted (Ownship (record { report = r }))) Refused
+
+abbrev pub readTraffic : List ℕ → Reading
+readTraffic = reading 20 28 reportIn goodReport (λ r. accepted (Traffic (record { report = r }))) Refused

@@ -1,4 +1,4 @@
-// Ownship and traffic reports (001 §3.4, §3.5): one format, with two ids.
+// Ownship and traffic reports (001 §3.4, §3.5): two kinds, of one format.
 ghost use mathlib.Core.Path.{_≡_};
 ghost use Prim.Native.Nat.{_+_, _-_, _<_, _≤_};
 ghost use lib.ListN.{length};
@@ -6,27 +6,46 @@ ghost use Rattle.fields.specs.Writing.{Wrote};
 ghost use Rattle.numbers.specs.Signed.{signedIn, fieldOf};
 ghost use Rattle.report.specs.Marks.{stepsOr, knotsOr, climbOr, placeOf, isNone, noneMark, bit, altitudeOf, speedOf, climbOf, positionOf};
 ghost use Rattle.kinds.specs.Bytes.{eightAt};
-ghost use Rattle.report.specs.Bytes.{three, threeAt, twelveHigh, highAt, twelveLow, lowAt, codesIn, codesOf, reportIn, packed, reportBytes};
-ghost use Rattle.report.specs.Reading.{between, goodPosition, withinBits, goodReport, reportAccepted, reportRefused, reportRead};
+ghost use Rattle.report.specs.Bytes.{three, threeAt, twelveHigh, highAt, twelveLow, lowAt, codesIn, codesOf, reportIn, packed, reportBytes, ownshipBytes, trafficBytes};
+ghost use Rattle.report.specs.Reading.{between, goodPosition, withinBits, goodReport, reportAccepted, reportRefused, reportHeld, ownshipRead, trafficRead};
 use fields::Written;
 use flat_report::FlatReport;
 use flat_report::FlatReportRead;
 use kinds::Altitude;
 use kinds::Bytes8;
 use kinds::Climb;
+use kinds::Ownship;
 use kinds::Position;
 use kinds::Report;
 use kinds::Speed;
 use kinds::Traffic;
 use units::PressureSteps;
 
-// A report of either id.
-pub fn read_report(message: &[u8]) -> FlatReportRead
-    ensures { λ r. ⌜ r ≡ reportRead (now (message .entry)) ⌝ }
+pub fn read_ownship(message: &[u8]) -> FlatReportRead
+    ensures { λ r. ⌜ r ≡ ownshipRead (now (message .entry)) ⌝ }
 {
-    if message.len() != Traffic::LENGTH {
-        return report_refused(7);
+    let misfit = fields::misfit(message, Ownship::ID, Ownship::LENGTH);
+    if misfit != 0 {
+        return report_refused(misfit);
     }
+    report_held(message)
+}
+
+pub fn read_traffic(message: &[u8]) -> FlatReportRead
+    ensures { λ r. ⌜ r ≡ trafficRead (now (message .entry)) ⌝ }
+{
+    let misfit = fields::misfit(message, Traffic::ID, Traffic::LENGTH);
+    if misfit != 0 {
+        return report_refused(misfit);
+    }
+    report_held(message)
+}
+
+// Of either kind.
+fn report_held(message: &[u8]) -> FlatReportRead
+    requires { ⌜ length (now message) ≡ 28 ⌝ }
+    ensures { λ r. ⌜ r ≡ reportHeld (now (message .entry)) ⌝ }
+{
     let report = report_in(message);
     if is_good_report(report) {
         report_accepted(report)
@@ -72,8 +91,22 @@ fn report_refused(number: u8) -> FlatReportRead
     FlatReportRead { number, report }
 }
 
-// The report with this id.
-pub fn write_report(id: u8, report: Report, out: &mut [u8]) -> Written
+pub fn write_ownship(ownship: Ownship, out: &mut [u8]) -> Written
+    ensures { λ r. ⌜ Wrote (goodReport (ownship .report)) (ownshipBytes ownship) (now (out .entry)) r (now (out .exit)) ⌝ }
+{
+    let report = ownship.report;
+    write_report(Ownship::ID, report, out)
+}
+
+pub fn write_traffic(traffic: Traffic, out: &mut [u8]) -> Written
+    ensures { λ r. ⌜ Wrote (goodReport (traffic .report)) (trafficBytes traffic) (now (out .entry)) r (now (out .exit)) ⌝ }
+{
+    let report = traffic.report;
+    write_report(Traffic::ID, report, out)
+}
+
+// Of either kind.
+fn write_report(id: u8, report: Report, out: &mut [u8]) -> Written
     ensures { λ r. ⌜ Wrote (goodReport report) (reportBytes id report) (now (out .entry)) r (now (out .exit)) ⌝ }
 {
     if is_good_report(report) {

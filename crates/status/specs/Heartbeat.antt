@@ -61,10 +61,10 @@ heartbeatRefused k = record {
 
 -- 01's number with the value, and the same as a message of whatever kind
 abbrev pub heartbeatRead : List ℕ → HeartbeatRead
-heartbeatRead = reading 7 heartbeatIn goodHeartbeat (λ h. record { number = 0; heartbeat = h }) heartbeatRefused
+heartbeatRead = reading 0 7 heartbeatIn goodHeartbeat (λ h. record { number = 0; heartbeat = h }) heartbeatRefused
 
 abbrev pub readHeartbeat : List ℕ → Reading
-readHeartbeat = reading 7 heartbeatIn goodHeartbeat (λ h. Message (kind.Heartbeat h)) Refused
+readHeartbeat = reading 0 7 heartbeatIn goodHeartbeat (λ h. Message (kind.Heartbeat h)) Refused
 
 -- each field within its bits
 pub record HeartbeatBits (h : Heartbeat) : Type 0 where

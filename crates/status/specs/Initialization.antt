@@ -27,7 +27,7 @@ initializationAnswer k first second = record { number = k; initialization = reco
 
 abbrev pub initializationRead : List ℕ → InitializationRead
 initializationRead =
-    reading 3 initializationIn goodInitialization (λ i. record { number = 0; initialization = i }) (λ k. initializationAnswer k 0 0)
+    reading 2 3 initializationIn goodInitialization (λ i. record { number = 0; initialization = i }) (λ k. initializationAnswer k 0 0)
 
 abbrev pub readInitialization : List ℕ → Reading
-readInitialization = reading 3 initializationIn goodInitialization (λ i. Message (kind.Initialization i)) Refused
+readInitialization = reading 2 3 initializationIn goodInitialization (λ i. Message (kind.Initialization i)) Refused

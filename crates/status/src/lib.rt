@@ -15,8 +15,9 @@ const LAST_SECOND: u32 = 86399;
 pub fn read_heartbeat(message: &[u8]) -> HeartbeatRead
     ensures { λ r. ⌜ r ≡ heartbeatRead (now (message .entry)) ⌝ }
 {
-    if message.len() != Heartbeat::LENGTH {
-        return heartbeat_refused(7);
+    let misfit = fields::misfit(message, Heartbeat::ID, Heartbeat::LENGTH);
+    if misfit != 0 {
+        return heartbeat_refused(misfit);
     }
     let heartbeat = heartbeat_in(message);
     if is_good_heartbeat(heartbeat) {
@@ -112,8 +113,9 @@ fn heartbeat_bytes(heartbeat: Heartbeat) -> [u8; 7]
 pub fn read_initialization(message: &[u8]) -> InitializationRead
     ensures { λ r. ⌜ r ≡ initializationRead (now (message .entry)) ⌝ }
 {
-    if message.len() != Initialization::LENGTH {
-        return initialization_answer(7, 0, 0);
+    let misfit = fields::misfit(message, Initialization::ID, Initialization::LENGTH);
+    if misfit != 0 {
+        return initialization_answer(misfit, 0, 0);
     }
     initialization_answer(0, message[1], message[2])
 }

@@ -8,12 +8,12 @@ use Rattle.framing.specs.Stuffing.{escape, stuff}
 use Rattle.framing.specs.Frame.{lowFirst, enclosed, frameOf}
 use Rattle.collecting.specs.Step.{collected, unescaped, inside, checked, closed, taken, next, answerTo, shown}
 use Rattle.collecting.specs.Stream.{reply, replyTo, answers}
-use Rattle.fields.specs.Reading.{reading}
+use Rattle.fields.specs.Reading.{misfit, reading}
 use Rattle.status.specs.Heartbeat.{heartbeatIn}
 use Rattle.flat_report.specs.Flat.{trackFrom}
 use Rattle.report.specs.Marks.{positionOf, altitudeOf, speedOf, climbOf}
 use Rattle.report.specs.Bytes.{reportIn}
-use Rattle.report.specs.Reading.{goodPosition, goodReport, carriedBy}
+use Rattle.report.specs.Reading.{goodPosition, goodReport}
 use Rattle.messages.specs.Message.{readMessage}
 use Rattle.uplink.specs.Walk.{before, walk, listing}
 use Rattle.uplink.specs.Answers.{counted}
@@ -21,9 +21,9 @@ use Rattle.values.specs.Row.{Holds, done, _and_}
 use Rattle.values.specs.Values.{Starred, Examples}
 
 pub starred-hold : Starred
-unfolding Holds _⊕_ bit signedIn bits step fcs escape stuff lowFirst enclosed frameOf collected unescaped inside checked closed taken next answerTo shown reply replyTo answers reading heartbeatIn trackFrom positionOf altitudeOf speedOf climbOf reportIn goodPosition goodReport carriedBy readMessage before walk listing counted
+unfolding Holds _⊕_ bit signedIn bits step fcs escape stuff lowFirst enclosed frameOf collected unescaped inside checked closed taken next answerTo shown reply replyTo answers misfit reading heartbeatIn trackFrom positionOf altitudeOf speedOf climbOf reportIn goodPosition goodReport readMessage before walk listing counted
 starred-hold = refl and refl and refl and refl and refl and refl and refl and refl and refl and refl and refl and refl and refl and refl and refl and refl and refl and refl and refl and refl and refl and refl and refl and refl and refl and refl and refl and refl and refl and done
 
 pub examples-hold : Examples
-unfolding Holds _⊕_ bit signedIn bits step fcs escape stuff lowFirst enclosed frameOf reading heartbeatIn trackFrom positionOf altitudeOf speedOf climbOf reportIn goodPosition goodReport carriedBy readMessage
+unfolding Holds _⊕_ bit signedIn bits step fcs escape stuff lowFirst enclosed frameOf misfit reading heartbeatIn trackFrom positionOf altitudeOf speedOf climbOf reportIn goodPosition goodReport readMessage
 examples-hold = refl and refl and refl and refl and refl and done

@@ -166,8 +166,8 @@ fn pass_throughs() {
 }
 
 fn check_report(raw: raw::Report) {
-    let ownship = assert_fields(raw, Message::Ownship, raw::write_ownship, raw::read_report);
-    let traffic = assert_fields(raw, Message::Traffic, raw::write_traffic, raw::read_report);
+    let ownship = assert_fields(raw, Message::Ownship, raw::write_ownship, raw::read_ownship);
+    let traffic = assert_fields(raw, Message::Traffic, raw::write_traffic, raw::read_traffic);
     assert_eq!((ownship[0], traffic[0]), (10, 20));
     assert_eq!(ownship[1..], traffic[1..]);
 }
@@ -203,7 +203,7 @@ fn reports() {
         DISTINCT,
         Message::Traffic,
         raw::write_traffic,
-        raw::read_report,
+        raw::read_traffic,
     );
     assert_distinct(&message);
     check_report(DISTINCT);

@@ -32,9 +32,9 @@ fn read_as(id: u8, message: &[u8]) -> Result<Message, u8> {
         }
         UPLINK_ID => uplink_answer(message).map(gdl90::Message::Uplink),
         HEIGHT_ID => answer(raw::read_height(message)).map(gdl90::Message::Height),
-        OWNSHIP_ID => answer(raw::read_report(message)).map(gdl90::Message::Ownship),
+        OWNSHIP_ID => answer(raw::read_ownship(message)).map(gdl90::Message::Ownship),
         GEOMETRIC_ID => answer(raw::read_geometric(message)).map(gdl90::Message::Geometric),
-        TRAFFIC_ID => answer(raw::read_report(message)).map(gdl90::Message::Traffic),
+        TRAFFIC_ID => answer(raw::read_traffic(message)).map(gdl90::Message::Traffic),
         BASIC_ID => answer(raw::read_basic(message)).map(gdl90::Message::Basic),
         LONG_ID => answer(raw::read_long(message)).map(gdl90::Message::Long),
         _ => panic!("no kind has the id {id}"),

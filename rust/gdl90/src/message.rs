@@ -77,11 +77,11 @@ impl<'a> Message<'a> {
             }
             Some(id::UPLINK) => Self::Uplink(Uplink::read(message)?),
             Some(id::HEIGHT) => Self::Height(raw::read_height(message).result()?.try_into()?),
-            Some(id::OWNSHIP) => Self::Ownship(raw::read_report(message).result()?.try_into()?),
+            Some(id::OWNSHIP) => Self::Ownship(raw::read_ownship(message).result()?.try_into()?),
             Some(id::GEOMETRIC) => {
                 Self::Geometric(raw::read_geometric(message).result()?.try_into()?)
             }
-            Some(id::TRAFFIC) => Self::Traffic(raw::read_report(message).result()?.try_into()?),
+            Some(id::TRAFFIC) => Self::Traffic(raw::read_traffic(message).result()?.try_into()?),
             Some(id::BASIC) => Self::Basic(raw::read_basic(message).result()?.try_into()?),
             Some(id::LONG) => Self::Long(raw::read_long(message).result()?.try_into()?),
             // A heartbeat, or the library answers 6.

@@ -114,10 +114,12 @@ readers! {
     read_uplink: gdl90_read_uplink -> Uplink;
     /// The numbers of a height above terrain: 6, 7.
     read_height: gdl90_read_height -> Height;
-    /// An ownship's or a traffic report's numbers: 6, 7, 8.
-    read_report: gdl90_read_report -> Report;
+    /// An ownship report's numbers: 6, 7, 8.
+    read_ownship: gdl90_read_ownship -> Report;
     /// A geometric altitude's numbers: 6, 7.
     read_geometric: gdl90_read_geometric -> Geometric;
+    /// A traffic report's numbers: 6, 7, 8.
+    read_traffic: gdl90_read_traffic -> Report;
     /// A basic pass-through's numbers: 6, 7, 8.
     read_basic: gdl90_read_basic -> Basic;
     /// A long pass-through's numbers: 6, 7, 8.

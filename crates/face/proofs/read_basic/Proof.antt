@@ -4,27 +4,19 @@ use borrow.Author.Needs.{needs}
 use Rattle.face.proofs.read_basic.Statement.{statement}
 use Rattle.face.proofs.read_basic.Tie as tie
 
-of-kind-requires : tie.Need-of-kind-requires
-of-kind-requires c κs = search needs
-
 read-basic-pass-through-requires : tie.Need-read-basic-pass-through-requires
 read-basic-pass-through-requires c κs = search needs
 
 flat-basic-requires : tie.Need-flat-basic-requires
 flat-basic-requires c κs = search needs
 
-number-of-requires : tie.Need-number-of-requires
-number-of-requires c κs = search needs
-
 returns : tie.Need-returns
-returns c = simp (c .number-of .ensures, c .before .flat-basic .ensures, c .before .before .before .read-basic-pass-through .ensures, c .before .before .before .before .of-kind .ensures)
+returns c = simp (c .flat-basic .ensures, c .before .before .read-basic-pass-through .ensures)
 
 pub read-basic-spec : {M : Type 1} → statement M
 read-basic-spec =
     tie.close
     (tie.spec
-    of-kind-requires
     read-basic-pass-through-requires
     flat-basic-requires
-    number-of-requires
     returns)

@@ -4,27 +4,19 @@ use borrow.Author.Needs.{needs}
 use Rattle.face.proofs.read_long.Statement.{statement}
 use Rattle.face.proofs.read_long.Tie as tie
 
-of-kind-requires : tie.Need-of-kind-requires
-of-kind-requires c κs = search needs
-
 read-long-pass-through-requires : tie.Need-read-long-pass-through-requires
 read-long-pass-through-requires c κs = search needs
 
 flat-long-requires : tie.Need-flat-long-requires
 flat-long-requires c κs = search needs
 
-number-of-requires : tie.Need-number-of-requires
-number-of-requires c κs = search needs
-
 returns : tie.Need-returns
-returns c = simp (c .number-of .ensures, c .before .flat-long .ensures, c .before .before .before .read-long-pass-through .ensures, c .before .before .before .before .of-kind .ensures)
+returns c = simp (c .flat-long .ensures, c .before .before .read-long-pass-through .ensures)
 
 pub read-long-spec : {M : Type 1} → statement M
 read-long-spec =
     tie.close
     (tie.spec
-    of-kind-requires
     read-long-pass-through-requires
     flat-long-requires
-    number-of-requires
     returns)

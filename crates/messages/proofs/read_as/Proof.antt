@@ -15,7 +15,6 @@ use Rattle.flat_report.specs.Flat.{reportFrom}
 use Rattle.flat_report.proofs.Laws.{report-there-and-back}
 use Rattle.kinds.specs.declared.UplinkRead.{UplinkRead}
 use Rattle.kinds.specs.declared.Message.the-variants as kind
-use Rattle.report.specs.Reading.{carriedBy}
 use Rattle.messages.specs.Message.{asReading}
 use Rattle.messages.proofs.Dispatch.{of-kind}
 use borrow.Author.Needs.{needs}
@@ -61,8 +60,8 @@ as-reading-requires-4 c κs = search needs
 enum-told-5 : tie.Need-enum-told-5
 enum-told-5 c = search needs
 
-read-report-requires : tie.Need-read-report-requires
-read-report-requires c κs = search needs
+read-ownship-requires : tie.Need-read-ownship-requires
+read-ownship-requires c κs = search needs
 
 report-from-requires : tie.Need-report-from-requires
 report-from-requires c κs = search needs
@@ -82,8 +81,8 @@ as-reading-requires-6 c κs = search needs
 enum-told-7 : tie.Need-enum-told-7
 enum-told-7 c = search needs
 
-read-report-requires-2 : tie.Need-read-report-requires-2
-read-report-requires-2 c κs = search needs
+read-traffic-requires : tie.Need-read-traffic-requires
+read-traffic-requires c κs = search needs
 
 report-from-requires-2 : tie.Need-report-from-requires-2
 report-from-requires-2 c κs = search needs
@@ -115,55 +114,53 @@ enum-told-10 c = search needs
 returns : tie.Need-returns
 returns c =
     let r = c .before .before in
-    of-kind _ (r .before .enum-told .given .1) (c .as-reading .ensures ∙ made _ _ _ _ _ _ _ _ (λ (a : HeartbeatRead). asReading (a .number) (kind.Heartbeat (a .heartbeat))) (r .read-heartbeat .ensures) (λ x. refl) refl refl)
+    of-kind _ (r .before .enum-told .given .1) (c .as-reading .ensures ∙ made _ _ _ _ _ _ _ _ _ (λ (a : HeartbeatRead). asReading (a .number) (kind.Heartbeat (a .heartbeat))) (r .read-heartbeat .ensures) (λ x. refl) refl refl refl)
 
 returns-2 : tie.Need-returns-2
 returns-2 c =
     let r = c .before .before in
-    of-kind _ (r .before .enum-told2 .given .1) (c .as-reading2 .ensures ∙ made _ _ _ _ _ _ _ _ (λ (a : InitializationRead). asReading (a .number) (kind.Initialization (a .initialization))) (r .read-initialization .ensures) (λ x. refl) refl refl)
+    of-kind _ (r .before .enum-told2 .given .1) (c .as-reading2 .ensures ∙ made _ _ _ _ _ _ _ _ _ (λ (a : InitializationRead). asReading (a .number) (kind.Initialization (a .initialization))) (r .read-initialization .ensures) (λ x. refl) refl refl refl)
 
 returns-3 : tie.Need-returns-3
 returns-3 c =
     let r = c .before .before in
-    of-kind _ (r .before .enum-told3 .given .1) (c .as-reading3 .ensures ∙ made _ _ _ _ _ _ _ _ (λ (a : UplinkRead). asReading (a .number) (kind.Uplink (a .uplink))) (r .read-uplink .ensures) (λ x. refl) refl refl)
+    of-kind _ (r .before .enum-told3 .given .1) (c .as-reading3 .ensures ∙ made _ _ _ _ _ _ _ _ _ (λ (a : UplinkRead). asReading (a .number) (kind.Uplink (a .uplink))) (r .read-uplink .ensures) (λ x. refl) refl refl refl)
 
 returns-4 : tie.Need-returns-4
 returns-4 c =
     let r = c .before .before in
-    of-kind _ (r .before .enum-told4 .given .1) (c .as-reading4 .ensures ∙ made _ _ _ _ _ _ _ _ (λ (a : HeightRead). asReading (a .number) (kind.Height (a .height))) (r .read-height .ensures) (λ x. refl) refl refl)
+    of-kind _ (r .before .enum-told4 .given .1) (c .as-reading4 .ensures ∙ made _ _ _ _ _ _ _ _ _ (λ (a : HeightRead). asReading (a .number) (kind.Height (a .height))) (r .read-height .ensures) (λ x. refl) refl refl refl)
 
 returns-5 : tie.Need-returns-5
-unfolding carriedBy
 returns-5 c =
     let r = c .before .before .before in
     of-kind _ (r .before .enum-told5 .given .1)
     (c .as-reading5 .ensures
-    ∙ ap (λ (x : Report). asReading (r .read-report .result .number) (kind.Ownship (record { report = x }))) (c .before .report-from .ensures)
-    ∙ made _ _ _ _ _ _ _ _ (λ (a : FlatReportRead). asReading (a .number) (kind.Ownship (record { report = reportFrom (a .report) }))) (r .read-report .ensures) (λ x. ap (λ (y : Report). Accepted (kind.Ownship (record { report = y }))) (report-there-and-back x)) refl refl)
+    ∙ ap (λ (x : Report). asReading (r .read-ownship .result .number) (kind.Ownship (record { report = x }))) (c .before .report-from .ensures)
+    ∙ made _ _ _ _ _ _ _ _ _ (λ (a : FlatReportRead). asReading (a .number) (kind.Ownship (record { report = reportFrom (a .report) }))) (r .read-ownship .ensures) (λ x. ap (λ (y : Report). Accepted (kind.Ownship (record { report = y }))) (report-there-and-back x)) refl refl refl)
 
 returns-6 : tie.Need-returns-6
 returns-6 c =
     let r = c .before .before in
-    of-kind _ (r .before .enum-told6 .given .1) (c .as-reading6 .ensures ∙ made _ _ _ _ _ _ _ _ (λ (a : GeometricRead). asReading (a .number) (kind.Geometric (a .geometric))) (r .read-geometric .ensures) (λ x. refl) refl refl)
+    of-kind _ (r .before .enum-told6 .given .1) (c .as-reading6 .ensures ∙ made _ _ _ _ _ _ _ _ _ (λ (a : GeometricRead). asReading (a .number) (kind.Geometric (a .geometric))) (r .read-geometric .ensures) (λ x. refl) refl refl refl)
 
 returns-7 : tie.Need-returns-7
-unfolding carriedBy
 returns-7 c =
     let r = c .before .before .before in
     of-kind _ (r .before .enum-told7 .given .1)
     (c .as-reading7 .ensures
-    ∙ ap (λ (x : Report). asReading (r .read-report2 .result .number) (kind.Traffic (record { report = x }))) (c .before .report-from2 .ensures)
-    ∙ made _ _ _ _ _ _ _ _ (λ (a : FlatReportRead). asReading (a .number) (kind.Traffic (record { report = reportFrom (a .report) }))) (r .read-report2 .ensures) (λ x. ap (λ (y : Report). Accepted (kind.Traffic (record { report = y }))) (report-there-and-back x)) refl refl)
+    ∙ ap (λ (x : Report). asReading (r .read-traffic .result .number) (kind.Traffic (record { report = x }))) (c .before .report-from2 .ensures)
+    ∙ made _ _ _ _ _ _ _ _ _ (λ (a : FlatReportRead). asReading (a .number) (kind.Traffic (record { report = reportFrom (a .report) }))) (r .read-traffic .ensures) (λ x. ap (λ (y : Report). Accepted (kind.Traffic (record { report = y }))) (report-there-and-back x)) refl refl refl)
 
 returns-8 : tie.Need-returns-8
 returns-8 c =
     let r = c .before .before in
-    of-kind _ (r .before .enum-told8 .given .1) (c .as-reading8 .ensures ∙ made _ _ _ _ _ _ _ _ (λ (a : BasicRead). asReading (a .number) (kind.Basic (a .basic))) (r .read-basic-pass-through .ensures) (λ x. refl) refl refl)
+    of-kind _ (r .before .enum-told8 .given .1) (c .as-reading8 .ensures ∙ made _ _ _ _ _ _ _ _ _ (λ (a : BasicRead). asReading (a .number) (kind.Basic (a .basic))) (r .read-basic-pass-through .ensures) (λ x. refl) refl refl refl)
 
 returns-9 : tie.Need-returns-9
 returns-9 c =
     let r = c .before .before in
-    of-kind _ (r .before .enum-told9 .given .1) (c .as-reading9 .ensures ∙ made _ _ _ _ _ _ _ _ (λ (a : LongRead). asReading (a .number) (kind.Long (a .long))) (r .read-long-pass-through .ensures) (λ x. refl) refl refl)
+    of-kind _ (r .before .enum-told9 .given .1) (c .as-reading9 .ensures ∙ made _ _ _ _ _ _ _ _ _ (λ (a : LongRead). asReading (a .number) (kind.Long (a .long))) (r .read-long-pass-through .ensures) (λ x. refl) refl refl refl)
 
 returns-10 : tie.Need-returns-10
 returns-10 c = search needs
@@ -185,14 +182,14 @@ read-as-spec =
     read-height-requires
     as-reading-requires-4
     enum-told-5
-    read-report-requires
+    read-ownship-requires
     report-from-requires
     as-reading-requires-5
     enum-told-6
     read-geometric-requires
     as-reading-requires-6
     enum-told-7
-    read-report-requires-2
+    read-traffic-requires
     report-from-requires-2
     as-reading-requires-7
     enum-told-8

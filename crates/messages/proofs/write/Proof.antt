@@ -33,8 +33,8 @@ write-height-requires c κs = search needs
 enum-known-message-5 : tie.Need-enum-known-message-5
 enum-known-message-5 c = search needs
 
-write-report-requires : tie.Need-write-report-requires
-write-report-requires c κs = search needs
+write-ownship-requires : tie.Need-write-ownship-requires
+write-ownship-requires c κs = search needs
 
 enum-known-message-6 : tie.Need-enum-known-message-6
 enum-known-message-6 c = search needs
@@ -45,8 +45,8 @@ write-geometric-requires c κs = search needs
 enum-known-message-7 : tie.Need-enum-known-message-7
 enum-known-message-7 c = search needs
 
-write-report-requires-2 : tie.Need-write-report-requires-2
-write-report-requires-2 c κs = search needs
+write-traffic-requires : tie.Need-write-traffic-requires
+write-traffic-requires c κs = search needs
 
 enum-known-message-8 : tie.Need-enum-known-message-8
 enum-known-message-8 c = search needs
@@ -88,7 +88,7 @@ same-length-5 : tie.Need-same-length-5
 same-length-5 c = search needs
 
 returns-5 : tie.Need-returns-5
-returns-5 c = wrote _ (c .before .before .before .before .before .before .message5 .given .1) refl (c .before .before .write-report .ensures)
+returns-5 c = wrote _ (c .before .before .before .before .before .message5 .given .1) refl (c .before .before .write-ownship .ensures)
 
 same-length-6 : tie.Need-same-length-6
 same-length-6 c = search needs
@@ -100,7 +100,7 @@ same-length-7 : tie.Need-same-length-7
 same-length-7 c = search needs
 
 returns-7 : tie.Need-returns-7
-returns-7 c = wrote _ (c .before .before .before .before .before .before .message7 .given .1) refl (c .before .before .write-report2 .ensures)
+returns-7 c = wrote _ (c .before .before .before .before .before .message7 .given .1) refl (c .before .before .write-traffic .ensures)
 
 same-length-8 : tie.Need-same-length-8
 same-length-8 c = search needs
@@ -127,11 +127,11 @@ write-spec =
     enum-known-message-4
     write-height-requires
     enum-known-message-5
-    write-report-requires
+    write-ownship-requires
     enum-known-message-6
     write-geometric-requires
     enum-known-message-7
-    write-report-requires-2
+    write-traffic-requires
     enum-known-message-8
     write-basic-pass-through-requires
     enum-known-message-9

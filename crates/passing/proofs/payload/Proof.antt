@@ -28,41 +28,24 @@ returns : tie.Need-returns
 unfolding payloadOf
 returns c = simp (← c .before .before .before .read-uplink .ensures, ne-eqb _ 0 (c .before .if1 .taken))
 
-shared-slice-read-if2 : tie.Need-shared-slice-read-if2
-shared-slice-read-if2 c =
-    omega (arith, sized _ (c .before .before .before .read-uplink .ensures) (c .before .if1 .left))
-
 sub-result-2 : tie.Need-sub-result-2
-sub-result-2 c = search needs
+sub-result-2 c =
+    omega (arith, sized _ (c .before .before .read-uplink .ensures) (c .if1 .left))
 
 part-result-start-2 : tie.Need-part-result-start-2
-part-result-start-2 c = search needs
+part-result-start-2 c =
+    omega (arith, sized _ (c .before .before .read-uplink .ensures) (c .if1 .left))
 
 part-result-end-2 : tie.Need-part-result-end-2
 part-result-end-2 c = search needs
 
 returns-2 : tie.Need-returns-2
 unfolding payloadOf
-returns-2 c = simp (← c .before .before .before .before .before .read-uplink .ensures, eq-eqb _ 0 (c .before .before .before .if1 .left), ne-eqb _ 7 (c .before .if2 .taken))
-
-sub-result-3 : tie.Need-sub-result-3
-sub-result-3 c =
-    omega (arith, sized _ (c .before .before .before .before .read-uplink .ensures) (c .before .before .if1 .left))
-
-part-result-start-3 : tie.Need-part-result-start-3
-part-result-start-3 c =
-    omega (arith, sized _ (c .before .before .before .before .read-uplink .ensures) (c .before .before .if1 .left))
-
-part-result-end-3 : tie.Need-part-result-end-3
-part-result-end-3 c = search needs
-
-returns-3 : tie.Need-returns-3
-unfolding payloadOf
-returns-3 c =
-    let r = c .before .before .before .before .before in
+returns-2 c =
+    let r = c .before .before .before in
     let m = r .before .before .args .message .now in
     take-all (length m - 4) (drop 4 m) (omega (arith, length-drop 4 m))
-    ∙ simp (← r .read-uplink .ensures, eq-eqb _ 0 (c .before .before .before .if1 .left), eq-eqb _ 7 (c .before .if2 .left))
+    ∙ simp (← r .read-uplink .ensures, eq-eqb _ 0 (c .before .if1 .left))
 
 pub payload-spec : {M : Type 1} → statement M
 payload-spec =
@@ -73,12 +56,7 @@ payload-spec =
     part-result-start
     part-result-end
     returns
-    shared-slice-read-if2
     sub-result-2
     part-result-start-2
     part-result-end-2
-    returns-2
-    sub-result-3
-    part-result-start-3
-    part-result-end-3
-    returns-3)
+    returns-2)

@@ -177,12 +177,12 @@ fn measure_traffic(messages: &[Vec<u8>]) {
     measure(
         "read_traffic",
         messages,
-        |message| raw::read_report(message),
+        |message| raw::read_traffic(message),
         |message| reference_read_traffic(message),
     );
     let both = messages.iter().map(|message| {
         let report = reference_read_traffic(message).expect("a whole report");
-        (raw::read_report(message).value, report)
+        (raw::read_traffic(message).value, report)
     });
     let values: Vec<(raw::Report, Report)> = both.collect();
     let (mut proved, mut expected) = ([0; ROOM], [0; ROOM]);
