@@ -7,6 +7,7 @@ use mathlib.Core.List.{List}
 use native.Mathlib.Omega.{arith}
 use lib.Dec.{eqb}
 use lib.ListN.{length}
+use lib.Seq.{take-all}
 use borrow.Author.Tests.{eqb-true, eqb-false, eq-eqb, ne-eqb}
 use Rattle.numbers.specs.Lent.{written}
 use Rattle.fields.specs.declared.Written.{Written}
@@ -42,11 +43,11 @@ module _ (u : Uplink) (payload out : List ℕ) where
   right-size h w = record { answers = simp (eq-eqb (length payload) 432 h) (w .answers); leaves = w .leaves }
 
 pub written-read : UplinkWrittenRead
-unfolding payloadOf reading misfit
+unfolding reading misfit
 written-read u payload g h =
     let e = kept 7 (u .reception) payload g in
     let long : length (uplinkBytes u payload) ≡ 436 = omega arith in
-    (simp e, simp (ne-eqb (length (uplinkBytes u payload)) 0 (λ z. omega arith), eq-eqb _ 436 long, e, g))
+    (simp e, simp (ne-eqb (length (uplinkBytes u payload)) 0 (λ z. omega arith), eq-eqb _ 436 long, e, g) (take-all 432 payload (omega arith)))
 
 pub read-written : UplinkReadWritten
 read-written m long bytes id = whole-drop 432 m long 7 bytes id

@@ -3,10 +3,10 @@
 use mathlib.Core.Path.{_≡_}
 use Prim.Native.Nat.{ℕ}
 use mathlib.Core.Bool.{Bool, cond}
-use mathlib.Core.List.{List, []}
+use mathlib.Core.List.{List}
 use lib.Dec.{eqb}
-use lib.ListN.{length, drop}
-use Rattle.numbers.specs.Lent.{written}
+use lib.ListN.{length}
+use Rattle.numbers.specs.Lent.{written, stretch}
 use Rattle.fields.specs.Reading.{reading}
 use Rattle.fields.specs.declared.Written.{Written}
 use Rattle.fields.specs.declared.Written.the-variants.{Refused as RefusedWriting}
@@ -39,9 +39,15 @@ uplinkRead = reading 7 436 uplinkIn goodUplink (λ u. record { number = 0; uplin
 abbrev pub readUplink : List ℕ → Reading
 readUplink = reading 7 436 uplinkIn goodUplink (λ u. Message (kind.Uplink u)) Refused
 
--- the message from its fifth byte on, where it is an uplink
-unfoldable pub payloadOf : List ℕ → List ℕ
-payloadOf m = cond (eqb (uplinkRead m .number) 0) (drop 4 m) []
+-- the message from its fifth byte on, where it is an uplink, else no bytes
+abbrev pub payloadStart : List ℕ → ℕ
+payloadStart m = cond (eqb (uplinkRead m .number) 0) 4 0
+
+abbrev pub payloadSize : List ℕ → ℕ
+payloadSize m = cond (eqb (uplinkRead m .number) 0) 432 0
+
+abbrev pub payloadOf : List ℕ → List ℕ
+payloadOf m = stretch (payloadStart m) (payloadSize m) m
 
 -- 7 unless the payload has 432 bytes; then as every kind
 unfoldable pub writingUplink : Uplink → List ℕ → ℕ → Written

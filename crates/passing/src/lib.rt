@@ -3,12 +3,13 @@ ghost use mathlib.Core.Path.{_≡_};
 ghost use mathlib.Core.List.{[], _∷_, _++_};
 ghost use Prim.Native.Nat.{_+_, _≤_};
 ghost use lib.ListN.{length};
+ghost use Rattle.numbers.specs.Lent.{Part};
 ghost use Rattle.fields.specs.Writing.{Wrote};
 ghost use Rattle.passing.specs.Reception.{receptionOf, receptionIn, goodReception, receptionNumber, received};
 ghost use Rattle.kinds.specs.Bytes.{eightAt};
 ghost use Rattle.passing.specs.PassThrough.{eight, basicPassThroughIn, goodBasicPassThrough, basicPassThroughBytes, basicRefused, basicRead};
 ghost use Rattle.passing.specs.PassThrough.{longPassThroughIn, goodLongPassThrough, longPassThroughBytes, longRefused, longRead};
-ghost use Rattle.passing.specs.Uplink.{uplinkAnswer, uplinkRead, payloadOf, WroteUplink};
+ghost use Rattle.passing.specs.Uplink.{uplinkAnswer, uplinkRead, payloadStart, payloadSize, WroteUplink};
 use kinds::BasicPassThrough;
 use kinds::BasicRead;
 use kinds::Bytes8;
@@ -115,7 +116,7 @@ fn uplink_answer(number: u8, reception: Reception) -> UplinkRead
 
 // An uplink's payload, in the caller's own memory; of any other message an empty part.
 pub fn payload<'a>(message: &'a [u8]) -> &'a [u8]
-    ensures { λ r. ⌜ now r ≡ payloadOf (now (message .entry)) ⌝ }
+    ensures { λ r. ⌜ Part (payloadStart (now (message .entry))) (payloadSize (now (message .entry))) (now (message .entry)) (message .entry .ptr) (now r) (r .ptr) ⌝ }
 {
     let read = read_uplink(message);
     if read.number != 0 {

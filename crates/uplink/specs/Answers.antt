@@ -4,7 +4,8 @@ use Prim.Native.Nat.{ℕ, _+_}
 use mathlib.Core.Bool.{cond}
 use mathlib.Core.List.{List, []}
 use lib.Dec.{ltb}
-use lib.ListN.{length, getD, take, drop}
+use lib.ListN.{length, getD}
+use Rattle.numbers.specs.Lent.{stretch}
 use Rattle.uplink.specs.declared.Frame.{Frame}
 use Rattle.uplink.specs.declared.Listing.{Listing}
 use Rattle.uplink.specs.declared.Listing.the-variants as list
@@ -28,13 +29,14 @@ unfoldable pub numbered : Frames → ℕ → Found
 numbered (listed fs end) n = cond (ltb n (length fs)) (nth.Frame (getD fs n none)) (nth.Refused 13)
 numbered (refused k) n = nth.Refused k
 
--- a frame's data, behind the payload's header of 8 bytes and the frame's own of 2
-unfoldable pub dataIn : List ℕ → Frame → List ℕ
-dataIn p f = take (f .length) (drop (f .at + 10) p)
+-- where in the payload a frame's data start, behind the payload's header of 8 bytes and the frame's own of 2; 0 beside a refusal
+abbrev pub dataStart : Found → ℕ
+dataStart (nth.Frame f) = f .at + 10
+dataStart (nth.Refused k) = 0
 
-unfoldable pub dataOf : List ℕ → Found → List ℕ
-dataOf p (nth.Frame f) = dataIn p f
-dataOf p (nth.Refused k) = []
+-- a frame's data
+unfoldable pub dataIn : List ℕ → Frame → List ℕ
+dataIn p f = stretch (dataStart (nth.Frame f)) (f .length) p
 
 -- what one walk finds: count, end, and frame n
 unfoldable pub scanned : ℕ → Frames → Walked

@@ -5,9 +5,10 @@ ghost use mathlib.Core.List.{_++_};
 ghost use Prim.Native.Nat.{_+_, _-_, _≤_};
 ghost use lib.ListN.{length, take, replicate};
 ghost use lib.Seq.{paste};
+ghost use Rattle.numbers.specs.Lent.{Part};
 ghost use Rattle.uplink.specs.Frames.{headed, withValidBit};
 ghost use Rattle.uplink.specs.Walk.{listing};
-ghost use Rattle.uplink.specs.Answers.{scanned, counted, numbered, dataOf};
+ghost use Rattle.uplink.specs.Answers.{scanned, counted, numbered, foundFrame, dataStart};
 ghost use Rattle.uplink.specs.Adding.{isGood, withFrame, Adds};
 
 pub struct Frame {
@@ -73,7 +74,7 @@ pub fn nth(payload: &[u8], n: usize) -> Found
 
 // The data of frame n, in the caller's own memory; an empty part on a refusal.
 pub fn data<'a>(payload: &'a [u8], n: usize) -> &'a [u8]
-    ensures { λ r. ⌜ now r ≡ dataOf (now (payload .entry)) (numbered (listing (now (payload .entry))) n) ⌝ }
+    ensures { λ r. ⌜ Part (dataStart (numbered (listing (now (payload .entry))) n)) (foundFrame (numbered (listing (now (payload .entry))) n) .length) (now (payload .entry)) (payload .entry .ptr) (now r) (r .ptr) ⌝ }
 {
     match nth(payload, n) {
         Found::Frame(f) => {

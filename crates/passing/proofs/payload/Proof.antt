@@ -2,12 +2,10 @@
 -- Assumes nothing.
 use borrow.Author.Needs.{needs}
 use Rattle.passing.proofs.Uplinks.{sized}
-use Rattle.passing.specs.Uplink.{payloadOf}
-use lib.Seq.{take-all}
-use lib.ListN.{length, drop, length-drop}
-use Prim.Native.Nat.{_-_}
+use lib.ListN.{length, take, drop}
+use Prim.Native.Nat.{ℕ, _-_}
 use native.Mathlib.Omega.{arith}
-use mathlib.Core.Path.{_∙_}
+use mathlib.Core.Path.{_≡_, refl, ap}
 use borrow.Author.Tests.{eq-eqb, ne-eqb}
 use Rattle.passing.proofs.payload.Statement.{statement}
 use Rattle.passing.proofs.payload.Tie as tie
@@ -25,8 +23,9 @@ part-result-end : tie.Need-part-result-end
 part-result-end c = search needs
 
 returns : tie.Need-returns
-unfolding payloadOf
-returns c = simp (← c .before .before .before .read-uplink .ensures, ne-eqb _ 0 (c .before .if1 .taken))
+returns c =
+    let r = c .before .before .before .read-uplink in
+    rw (← r .ensures, ne-eqb _ 0 (c .before .if1 .taken)) (record { holds = refl; stands = refl })
 
 sub-result-2 : tie.Need-sub-result-2
 sub-result-2 c =
@@ -40,12 +39,11 @@ part-result-end-2 : tie.Need-part-result-end-2
 part-result-end-2 c = search needs
 
 returns-2 : tie.Need-returns-2
-unfolding payloadOf
 returns-2 c =
     let r = c .before .before .before in
     let m = r .before .before .args .message .now in
-    take-all (length m - 4) (drop 4 m) (omega (arith, length-drop 4 m))
-    ∙ simp (← r .read-uplink .ensures, eq-eqb _ 0 (c .before .if1 .left))
+    let size : length m - 4 ≡ 432 = omega (arith, sized _ (r .read-uplink .ensures) (c .before .if1 .left)) in
+    rw (← r .read-uplink .ensures, eq-eqb _ 0 (c .before .if1 .left)) (record { holds = ap (λ (n : ℕ). take n (drop 4 m)) size; stands = refl })
 
 pub payload-spec : {M : Type 1} → statement M
 payload-spec =

@@ -1,9 +1,8 @@
 -- `uplink::data` meets its contract: a frame that is found lies inside.
 -- Assumes nothing.
-use mathlib.Core.Path.{_≡_, sym, _∙_}
+use mathlib.Core.Path.{_≡_, refl, sym, _∙_}
 use Prim.Native.Nat.{ℕ, _+_, _-_}
 use native.Mathlib.Omega.{arith}
-use Rattle.uplink.specs.Answers.{dataOf, dataIn}
 use Rattle.uplink.proofs.Rows.{inside}
 use borrow.Author.Needs.{needs}
 use Rattle.uplink.proofs.data.Statement.{statement}
@@ -49,15 +48,13 @@ part-result-end-2 : tie.Need-part-result-end-2
 part-result-end-2 c = search needs
 
 returns : tie.Need-returns
-unfolding dataOf dataIn
 returns c =
     let f = c .before .before .before .before in
     let e : (k n : ℕ) → k + n - k ≡ n = λ k n. omega arith in
-    rw (← f .before .before .nth .ensures, f .f .given .1, e)
+    rw (← f .before .before .nth .ensures, f .f .given .1) (record { holds = rw e refl; stands = refl })
 
 returns-2 : tie.Need-returns-2
-unfolding dataOf
-returns-2 c = rw (← c .before .before .before .nth .ensures, c .before .enum-told .given .1)
+returns-2 c = rw (← c .before .before .before .nth .ensures, c .before .enum-told .given .1) (record { holds = refl; stands = refl })
 
 pub data-spec : {M : Type 1} → statement M
 data-spec =
