@@ -23,7 +23,8 @@ ghost use Rattle.uplink.specs.Adding.{adding, addedNumber, payloadAfter};
 ghost use Rattle.gdl90.specs.Face.{frameAnswer, phaseNumber, phaseOf, controlOf, answerNumber, messageLength, feedAnswer, ranAnswer};
 ghost use Rattle.units.specs.Degrees.{inDegrees};
 ghost use Rattle.units.specs.Feet.{pressureFeet, geometricFeet, terrainFeet};
-ghost use Rattle.gdl90.specs.Payload.{listAnswer, nthRefused, nthAnswer};
+ghost use Rattle.gdl90.specs.Payload.{listAnswer, nthAnswer};
+ghost use Rattle.uplink.specs.declared.Found.the-variants.{Refused};
 ghost use Rattle.gdl90.specs.Degrees.{degreesAnswer};
 use collecting::Answer;
 use collecting::Control;
@@ -404,7 +405,7 @@ pub extern "C" fn gdl90_nth(payload: &[u8], n: usize) -> NthAnswer
 }
 
 fn no_frame(number: u8) -> NthAnswer
-    ensures { λ r. ⌜ r ≡ nthRefused number ⌝ }
+    ensures { λ r. ⌜ r ≡ nthAnswer (Refused number) ⌝ }
 {
     NthAnswer {
         number,

@@ -39,19 +39,20 @@ apart e = let z : _≡_ {A = ℕ} 0 1 = cc in omega arith
 
 pub written-read : WrittenRead
 unfolding misfit reading readMessage terrainBytes geometricBytes reportBytes
-written-read (Heartbeat h) payload t p g = simp (heartbeats.written-read h g, g)
-written-read (Initialization i) payload t p g = simp (initializations.written-read i g)
+written-read (Heartbeat h) payload t p g = (simp (heartbeats.written-read h g, g), refl)
+written-read (Initialization i) payload t p g = (simp (initializations.written-read i g), refl)
 written-read (Uplink u) payload t p g =
     let e = eqb-true (length payload) 432 p in
-    let back = uplinks.written-read u payload g e .0 in
+    let law = uplinks.written-read u payload g e in
+    let back = law .0 in
     let n = length (uplinkBytes u payload) in
-    simp (ne-eqb n 0 (λ z. omega arith), eq-eqb n 436 (omega arith), back, ap goodUplink back ∙ g)
-written-read (Height h) payload t p g = simp (altitudes.terrain-written-read h t g, g)
-written-read (Ownship o) payload t p g = simp (reports.written-read 10 (o .report) g, g)
-written-read (Geometric a) payload t p g = simp (altitudes.geometric-written-read a t g, g)
-written-read (Traffic o) payload t p g = simp (reports.written-read 20 (o .report) g, g)
-written-read (Basic b) payload t p g = simp (pass-throughs.basic-written-read b g, g)
-written-read (Long b) payload t p g = simp (pass-throughs.long-written-read b g, g)
+    (simp (ne-eqb n 0 (λ z. omega arith), eq-eqb n 436 (omega arith), back, ap goodUplink back ∙ g), law .1)
+written-read (Height h) payload t p g = (simp (altitudes.terrain-written-read h t g, g), refl)
+written-read (Ownship o) payload t p g = (simp (reports.written-read 10 (o .report) g, g), refl)
+written-read (Geometric a) payload t p g = (simp (altitudes.geometric-written-read a t g, g), refl)
+written-read (Traffic o) payload t p g = (simp (reports.written-read 20 (o .report) g, g), refl)
+written-read (Basic b) payload t p g = (simp (pass-throughs.basic-written-read b g, g), refl)
+written-read (Long b) payload t p g = (simp (pass-throughs.long-written-read b g, g), refl)
 
 module _ (m : List ℕ) (x : Message) where
   -- what ReadWritten and ReadGood say of one message

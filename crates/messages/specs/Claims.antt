@@ -11,7 +11,8 @@ use Rattle.kinds.specs.declared.Message.{Message}
 use Rattle.kinds.specs.declared.Message.the-variants.{Heartbeat, Initialization, Uplink, Height, Ownship, Geometric, Traffic, Basic, Long}
 use Rattle.kinds.specs.declared.Reading.the-variants.{Message as Accepted}
 use Rattle.altitudes.specs.Claims.{TypedHeight}
-use Rattle.messages.specs.Message.{messageBytes, goodMessage, goodPayload, readMessage}
+use Rattle.passing.specs.Uplink.{payloadOf}
+use Rattle.messages.specs.Message.{messageBytes, goodMessage, goodPayload, carried, readMessage}
 
 -- the two signed fields whose range is their 16-bit type are of that type
 abbrev pub Typed : Message → Type 0
@@ -25,11 +26,11 @@ Typed (Traffic x) = Unit {0}
 Typed (Basic x) = Unit {0}
 Typed (Long x) = Unit {0}
 
--- a typed message that writing accepts, written and read, is that message
+-- a typed message that writing accepts, written and read, is that message, and its payload stands in its place
 abbrev pub WrittenRead : Type 0
 WrittenRead =
     (x : Message) (payload : List ℕ) → Typed x → goodPayload x payload ≡ true → goodMessage x ≡ true
-    → readMessage (messageBytes x payload) ≡ Accepted x
+    → (readMessage (messageBytes x payload) ≡ Accepted x) × (payloadOf (messageBytes x payload) ≡ carried x payload)
 
 -- bytes that reading accepts, read and written, are the same bytes; an uplink's payload is the message from its fifth byte on
 abbrev pub ReadWritten : Type 0

@@ -3,7 +3,7 @@
 use mathlib.Core.Path.{_≡_}
 use Prim.Native.Nat.{ℕ}
 use mathlib.Core.Bool.{Bool, true, cond}
-use mathlib.Core.List.{List}
+use mathlib.Core.List.{List, []}
 use lib.Dec.{eqb}
 use lib.ListN.{length, getD}
 use Rattle.numbers.specs.Lent.{written}
@@ -98,6 +98,18 @@ goodPayload (Geometric x) payload = true
 goodPayload (Traffic x) payload = true
 goodPayload (Basic x) payload = true
 goodPayload (Long x) payload = true
+
+-- the payload that a message carries: of the other kinds none
+abbrev pub carried : Message → List ℕ → List ℕ
+carried (Heartbeat x) payload = []
+carried (Initialization x) payload = []
+carried (Uplink x) payload = payload
+carried (Height x) payload = []
+carried (Ownship x) payload = []
+carried (Geometric x) payload = []
+carried (Traffic x) payload = []
+carried (Basic x) payload = []
+carried (Long x) payload = []
 
 -- 7 for an uplink's payload, then 8, then 9
 unfoldable pub writingMessage : Message → List ℕ → ℕ → Written

@@ -7,6 +7,7 @@ use lib.Dec.{leb, eqb}
 use lib.IntN.{ℤ, natAbs}
 use lib.Signed.{nonNeg, mag}
 use lib.Ieee.{Float, binary64, mul, div, ofInt, ofBits, toBits}
+use Rattle.units.specs.declared.Degrees.{Degrees}
 use Rattle.units.specs.declared.InDegrees.{InDegrees}
 use Rattle.units.specs.declared.InDegrees.the-variants.{At, Refused}
 
@@ -46,7 +47,11 @@ unfoldable pub ExactlyAt : ℤ → ℤ → InDegrees → Type 0
 ExactlyAt latitude longitude (At d) = Exactly latitude (toBits binary64 (d .latitude)) × Exactly longitude (toBits binary64 (d .longitude))
 ExactlyAt latitude longitude (Refused k) = k ≡ 8
 
--- 01's number for each case
-abbrev pub number : InDegrees → ℕ
-number (At d) = 0
-number (Refused k) = k
+-- 01's number and the two values for each case, 0 beside a refusal
+abbrev pub degreesNumber : InDegrees → ℕ
+degreesNumber (At d) = 0
+degreesNumber (Refused k) = k
+
+abbrev pub degreesOf : InDegrees → Degrees
+degreesOf (At d) = d
+degreesOf (Refused k) = record { latitude = ofBits binary64 0; longitude = ofBits binary64 0 }
