@@ -1,3 +1,4 @@
 pub mod Degrees
 pub mod Face
 pub mod Payload
+pub mod Messages

@@ -15,8 +15,8 @@ ghost use Rattle.passing.specs.PassThrough.{goodBasicPassThrough, basicPassThro
 ghost use Rattle.report.specs.Bytes.{ownshipBytes, trafficBytes};
 ghost use Rattle.report.specs.Reading.{ownshipRead, trafficRead};
 ghost use Rattle.flat.specs.Flat.{uplinkFrom, terrainFrom, geometricFrom, basicFrom, longFrom};
-ghost use Rattle.face.specs.Answers.{uplinkAnswer, heightAnswer, geometricAnswer, basicAnswer, longAnswer};
-ghost use Rattle.face.specs.Answers.{AnsweredBy, AnsweredWriting, ownshipFrom, trafficFrom, goodFlatReport};
+ghost use Rattle.gdl90.specs.Messages.{uplinkAnswer, heightAnswer, geometricAnswer, basicAnswer, longAnswer};
+ghost use Rattle.gdl90.specs.Messages.{writeAnswer, AnsweredBy, AnsweredWriting, ownshipFrom, trafficFrom, goodFlatReport};
 ghost use Rattle.uplink.specs.Walk.{listing};
 ghost use Rattle.uplink.specs.Answers.{counted, numbered};
 ghost use Rattle.uplink.specs.Adding.{adding, addedNumber, payloadAfter};
@@ -29,7 +29,7 @@ ghost use Rattle.gdl90.specs.Degrees.{degreesAnswer};
 use collecting::Answer;
 use collecting::Control;
 use collecting::Phase;
-use face::WriteAnswer;
+use fields::Written;
 use flat::FlatBasic;
 use flat::FlatBasicRead;
 use flat::FlatGeometric;
@@ -47,6 +47,8 @@ use kinds::Heartbeat;
 use kinds::HeartbeatRead;
 use kinds::Initialization;
 use kinds::InitializationRead;
+use kinds::Ownship;
+use kinds::Traffic;
 use units::GeometricSteps;
 use units::InDegrees;
 use units::PressureSteps;
@@ -54,6 +56,9 @@ use units::TerrainFeet;
 use uplink::Added;
 use uplink::Found;
 use uplink::Listing;
+
+// 001 Table 9.
+const LAST_TRACK_KIND: u8 = 3;
 
 // `fcs::check_sequence`.
 #[no_mangle]
@@ -234,14 +239,26 @@ pub extern "C" fn gdl90_read_initialization(message: &[u8]) -> InitializationRea
 pub extern "C" fn gdl90_read_uplink(message: &[u8]) -> FlatUplinkRead
     ensures { λ r. ⌜ r ≡ uplinkAnswer (now (message .entry)) ⌝ }
 {
-    face::read_uplink(message)
+    let read = passing::read_uplink(message);
+    let value = read.uplink;
+    let uplink = flat::flat_uplink(value);
+    FlatUplinkRead {
+        number: read.number,
+        uplink,
+    }
 }
 
 #[no_mangle]
 pub extern "C" fn gdl90_read_height(message: &[u8]) -> FlatHeightRead
     ensures { λ r. ⌜ r ≡ heightAnswer (now (message .entry)) ⌝ }
 {
-    face::read_height(message)
+    let read = altitudes::read_height(message);
+    let value = read.height;
+    let height = flat::flat_height(value);
+    FlatHeightRead {
+        number: read.number,
+        height,
+    }
 }
 
 #[no_mangle]
@@ -255,7 +272,13 @@ pub extern "C" fn gdl90_read_ownship(message: &[u8]) -> FlatReportRead
 pub extern "C" fn gdl90_read_geometric(message: &[u8]) -> FlatGeometricRead
     ensures { λ r. ⌜ r ≡ geometricAnswer (now (message .entry)) ⌝ }
 {
-    face::read_geometric(message)
+    let read = altitudes::read_geometric(message);
+    let value = read.geometric;
+    let geometric = flat::flat_geometric(value);
+    FlatGeometricRead {
+        number: read.number,
+        geometric,
+    }
 }
 
 #[no_mangle]
@@ -269,14 +292,33 @@ pub extern "C" fn gdl90_read_traffic(message: &[u8]) -> FlatReportRead
 pub extern "C" fn gdl90_read_basic(message: &[u8]) -> FlatBasicRead
     ensures { λ r. ⌜ r ≡ basicAnswer (now (message .entry)) ⌝ }
 {
-    face::read_basic(message)
+    let read = passing::read_basic_pass_through(message);
+    let value = read.basic;
+    let basic = flat::flat_basic(value);
+    FlatBasicRead {
+        number: read.number,
+        basic,
+    }
 }
 
 #[no_mangle]
 pub extern "C" fn gdl90_read_long(message: &[u8]) -> FlatLongRead
     ensures { λ r. ⌜ r ≡ longAnswer (now (message .entry)) ⌝ }
 {
-    face::read_long(message)
+    let read = passing::read_long_pass_through(message);
+    let value = read.long;
+    let long = flat::flat_long(value);
+    FlatLongRead {
+        number: read.number,
+        long,
+    }
+}
+
+// 01's number, and how many bytes were written, 0 with a refusal.
+#[repr(C)]
+pub struct WriteAnswer {
+    pub number: u8,
+    pub length: usize,
 }
 
 // A struct's bytes to the start of the output: 01's number and how many; an uplink's payload is given beside it.
@@ -284,7 +326,8 @@ pub extern "C" fn gdl90_read_long(message: &[u8]) -> FlatLongRead
 pub extern "C" fn gdl90_write_heartbeat(heartbeat: Heartbeat, out: &mut [u8]) -> WriteAnswer
     ensures { λ r. ⌜ AnsweredWriting (goodHeartbeat heartbeat) (heartbeatBytes heartbeat) (now (out .entry)) r (now (out .exit)) ⌝ }
 {
-    face::write_heartbeat(heartbeat, out)
+    let written = status::write_heartbeat(heartbeat, out);
+    write_answer(written)
 }
 
 #[no_mangle]
@@ -294,7 +337,8 @@ pub extern "C" fn gdl90_write_initialization(
 ) -> WriteAnswer
     ensures { λ r. ⌜ AnsweredWriting (goodInitialization initialization) (initializationBytes initialization) (now (out .entry)) r (now (out .exit)) ⌝ }
 {
-    face::write_initialization(initialization, out)
+    let written = status::write_initialization(initialization, out);
+    write_answer(written)
 }
 
 #[no_mangle]
@@ -305,49 +349,84 @@ pub extern "C" fn gdl90_write_uplink(
 ) -> WriteAnswer
     ensures { λ r. ⌜ AnsweredBy (writingUplink (uplinkFrom uplink) (now (payload .entry)) (length (now (out .entry)))) (uplinkBytes (uplinkFrom uplink) (now (payload .entry))) (now (out .entry)) r (now (out .exit)) ⌝ }
 {
-    face::write_uplink(uplink, payload, out)
+    let value = flat::uplink_from(uplink);
+    let written = passing::write_uplink(value, payload, out);
+    write_answer(written)
 }
 
 #[no_mangle]
 pub extern "C" fn gdl90_write_height(height: FlatHeight, out: &mut [u8]) -> WriteAnswer
     ensures { λ r. ⌜ AnsweredWriting (goodTerrain (terrainFrom height)) (terrainBytes (terrainFrom height)) (now (out .entry)) r (now (out .exit)) ⌝ }
 {
-    face::write_height(height, out)
+    let value = flat::terrain_from(height);
+    let written = altitudes::write_height(value, out);
+    write_answer(written)
 }
 
 #[no_mangle]
 pub extern "C" fn gdl90_write_ownship(report: FlatReport, out: &mut [u8]) -> WriteAnswer
     ensures { λ r. ⌜ AnsweredWriting (goodFlatReport report) (ownshipBytes (ownshipFrom report)) (now (out .entry)) r (now (out .exit)) ⌝ }
 {
-    face::write_ownship(report, out)
+    if report.track_kind <= LAST_TRACK_KIND {
+        let report = flat_report::report_from(report);
+        let written = report::write_ownship(Ownship { report }, out);
+        return write_answer(written);
+    }
+    WriteAnswer {
+        number: 8,
+        length: 0,
+    }
 }
 
 #[no_mangle]
 pub extern "C" fn gdl90_write_geometric(geometric: FlatGeometric, out: &mut [u8]) -> WriteAnswer
     ensures { λ r. ⌜ AnsweredWriting (goodGeometric (geometricFrom geometric)) (geometricBytes (geometricFrom geometric)) (now (out .entry)) r (now (out .exit)) ⌝ }
 {
-    face::write_geometric(geometric, out)
+    let value = flat::geometric_from(geometric);
+    let written = altitudes::write_geometric(value, out);
+    write_answer(written)
 }
 
 #[no_mangle]
 pub extern "C" fn gdl90_write_traffic(report: FlatReport, out: &mut [u8]) -> WriteAnswer
     ensures { λ r. ⌜ AnsweredWriting (goodFlatReport report) (trafficBytes (trafficFrom report)) (now (out .entry)) r (now (out .exit)) ⌝ }
 {
-    face::write_traffic(report, out)
+    if report.track_kind <= LAST_TRACK_KIND {
+        let report = flat_report::report_from(report);
+        let written = report::write_traffic(Traffic { report }, out);
+        return write_answer(written);
+    }
+    WriteAnswer {
+        number: 8,
+        length: 0,
+    }
 }
 
 #[no_mangle]
 pub extern "C" fn gdl90_write_basic(basic: FlatBasic, out: &mut [u8]) -> WriteAnswer
     ensures { λ r. ⌜ AnsweredWriting (goodBasicPassThrough (basicFrom basic)) (basicPassThroughBytes (basicFrom basic)) (now (out .entry)) r (now (out .exit)) ⌝ }
 {
-    face::write_basic(basic, out)
+    let value = flat::basic_from(basic);
+    let written = passing::write_basic_pass_through(value, out);
+    write_answer(written)
 }
 
 #[no_mangle]
 pub extern "C" fn gdl90_write_long(long: FlatLong, out: &mut [u8]) -> WriteAnswer
     ensures { λ r. ⌜ AnsweredWriting (goodLongPassThrough (longFrom long)) (longPassThroughBytes (longFrom long)) (now (out .entry)) r (now (out .exit)) ⌝ }
 {
-    face::write_long(long, out)
+    let value = flat::long_from(long);
+    let written = passing::write_long_pass_through(value, out);
+    write_answer(written)
+}
+
+fn write_answer(written: Written) -> WriteAnswer
+    ensures { λ r. ⌜ r ≡ writeAnswer written ⌝ }
+{
+    match written {
+        Written::Bytes(length) => WriteAnswer { number: 0, length },
+        Written::Refused(number) => WriteAnswer { number, length: 0 },
+    }
 }
 
 // 01's number; how many information frames a payload has, and where their list ends, counted from the application data's start.
