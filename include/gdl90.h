@@ -191,6 +191,14 @@ struct gdl90_long_read {
     struct gdl90_long pass_through;
 };
 
+struct gdl90_kind_answer {
+    uint8_t number;
+    uint8_t id;
+};
+
+/* Which of the functions below reads the message: 6 if it is empty or its first byte is no kind's id, else 0 and the kind's id. */
+struct gdl90_kind_answer gdl90_kind(const uint8_t *message, size_t message_len);
+
 /* A message of one kind: 6 if it is empty or its first byte is not the kind's id, 7 if its length is not the kind's, 8 for a field
    outside its range, 0. The payload of an uplink is the 432 bytes from message + 4 on. */
 struct gdl90_heartbeat_read gdl90_read_heartbeat(const uint8_t *message, size_t message_len);

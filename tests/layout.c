@@ -102,6 +102,10 @@ static void print_messages(void)
 
 static void print_answers(void)
 {
+    STRUCT(gdl90_kind_answer);
+    FIELD(gdl90_kind_answer, number);
+    FIELD(gdl90_kind_answer, id);
+
     STRUCT(gdl90_heartbeat_read);
     FIELD(gdl90_heartbeat_read, number);
     FIELD(gdl90_heartbeat_read, heartbeat);

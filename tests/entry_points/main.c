@@ -17,6 +17,7 @@ typedef uint8_t u8;
 uint16_t gdl90_check_sequence(const u8 *, size_t);
 struct gdl90_frame_answer gdl90_frame(const u8 *, size_t, u8 *, size_t);
 struct gdl90_feed_answer gdl90_feed(struct gdl90_feed_control, u8[438], u8[436], const u8 *, size_t);
+struct gdl90_kind_answer gdl90_kind(const u8 *, size_t);
 struct gdl90_heartbeat_read gdl90_read_heartbeat(const u8 *, size_t);
 struct gdl90_initialization_read gdl90_read_initialization(const u8 *, size_t);
 struct gdl90_uplink_read gdl90_read_uplink(const u8 *, size_t);

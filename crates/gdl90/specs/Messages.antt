@@ -16,6 +16,9 @@ use Rattle.passing.specs.PassThrough.{basicRead, longRead}
 use Rattle.kinds.specs.declared.Ownship.{Ownship}
 use Rattle.kinds.specs.declared.Traffic.{Traffic}
 use Rattle.report.specs.Reading.{goodReport}
+use Rattle.messages.specs.declared.Kind.{Kind}
+use Rattle.messages.specs.Message.{kindNumber, idOf}
+use Rattle.gdl90.specs.declared.KindAnswer.{KindAnswer}
 use Rattle.gdl90.specs.declared.WriteAnswer.{WriteAnswer}
 use Rattle.flat_report.specs.declared.FlatReport.{FlatReport}
 use Rattle.flat.specs.declared.FlatUplinkRead.{FlatUplinkRead}
@@ -25,6 +28,9 @@ use Rattle.flat.specs.declared.FlatBasicRead.{FlatBasicRead}
 use Rattle.flat.specs.declared.FlatLongRead.{FlatLongRead}
 use Rattle.flat.specs.Flat.{flatUplink, flatHeight, flatGeometric, flatBasic, flatLong}
 use Rattle.flat_report.specs.Flat.{reportFrom}
+
+abbrev pub kindAnswer : Kind → KindAnswer
+kindAnswer k = record { number = kindNumber k; id = idOf k }
 
 abbrev pub uplinkAnswer : List ℕ → FlatUplinkRead
 uplinkAnswer m = record { number = uplinkRead m .number; uplink = flatUplink (uplinkRead m .uplink) }

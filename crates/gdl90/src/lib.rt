@@ -15,8 +15,9 @@ ghost use Rattle.passing.specs.PassThrough.{goodBasicPassThrough, basicPassThro
 ghost use Rattle.report.specs.Bytes.{ownshipBytes, trafficBytes};
 ghost use Rattle.report.specs.Reading.{ownshipRead, trafficRead};
 ghost use Rattle.flat.specs.Flat.{uplinkFrom, terrainFrom, geometricFrom, basicFrom, longFrom};
-ghost use Rattle.gdl90.specs.Messages.{uplinkAnswer, heightAnswer, geometricAnswer, basicAnswer, longAnswer};
+ghost use Rattle.gdl90.specs.Messages.{kindAnswer, uplinkAnswer, heightAnswer, geometricAnswer, basicAnswer, longAnswer};
 ghost use Rattle.gdl90.specs.Messages.{writeAnswer, AnsweredBy, AnsweredWriting, ownshipFrom, trafficFrom, goodFlatReport};
+ghost use Rattle.messages.specs.Message.{kindIn, kindNumber, idOf};
 ghost use Rattle.uplink.specs.Walk.{listing};
 ghost use Rattle.uplink.specs.Answers.{counted, numbered};
 ghost use Rattle.uplink.specs.Adding.{adding, addedNumber, payloadAfter};
@@ -49,6 +50,7 @@ use kinds::Initialization;
 use kinds::InitializationRead;
 use kinds::Ownship;
 use kinds::Traffic;
+use messages::Kind;
 use units::GeometricSteps;
 use units::InDegrees;
 use units::PressureSteps;
@@ -217,6 +219,59 @@ fn message_length(answer: Answer) -> usize
         Answer::None => 0,
         Answer::Accepted(k) => k,
         Answer::Refused(_) => 0,
+    }
+}
+
+// 01's number, 6 where the message is of no kind; and the kind's id.
+#[repr(C)]
+pub struct KindAnswer {
+    pub number: u8,
+    pub id: u8,
+}
+
+// `messages::kind_in`: which of the functions below reads the message.
+#[no_mangle]
+pub extern "C" fn gdl90_kind(message: &[u8]) -> KindAnswer
+    ensures { λ r. ⌜ r ≡ kindAnswer (kindIn (now (message .entry))) ⌝ }
+{
+    let kind = messages::kind_in(message);
+    KindAnswer {
+        number: kind_number(kind),
+        id: id_of(kind),
+    }
+}
+
+fn kind_number(kind: Kind) -> u8
+    ensures { λ r. ⌜ r ≡ kindNumber kind ⌝ }
+{
+    match kind {
+        Kind::Heartbeat => 0,
+        Kind::Initialization => 0,
+        Kind::Uplink => 0,
+        Kind::Height => 0,
+        Kind::Ownship => 0,
+        Kind::Geometric => 0,
+        Kind::Traffic => 0,
+        Kind::Basic => 0,
+        Kind::Long => 0,
+        Kind::Unknown => 6,
+    }
+}
+
+fn id_of(kind: Kind) -> u8
+    ensures { λ r. ⌜ r ≡ idOf kind ⌝ }
+{
+    match kind {
+        Kind::Heartbeat => Heartbeat::ID,
+        Kind::Initialization => Initialization::ID,
+        Kind::Uplink => kinds::Uplink::ID,
+        Kind::Height => kinds::HeightAboveTerrain::ID,
+        Kind::Ownship => Ownship::ID,
+        Kind::Geometric => kinds::GeometricAltitude::ID,
+        Kind::Traffic => Traffic::ID,
+        Kind::Basic => kinds::BasicPassThrough::ID,
+        Kind::Long => kinds::LongPassThrough::ID,
+        Kind::Unknown => 0,
     }
 }
 

@@ -31,14 +31,14 @@ use Rattle.passing.proofs.PassThroughs as pass-throughs
 use Rattle.report.proofs.Laws as reports
 use Rattle.messages.specs.declared.Kind.{Kind}
 use Rattle.messages.specs.declared.Kind.the-variants as kind
-use Rattle.messages.specs.Message.{kindOf, readAs, readMessage, messageBytes, goodMessage, goodPayload}
+use Rattle.messages.specs.Message.{kindIn, readAs, readMessage, messageBytes, goodMessage, goodPayload}
 use Rattle.messages.specs.Claims.{WrittenRead, ReadWritten, ReadGood}
 
 apart : {k : ℕ} {x : Message} → Refused k ≡ Accepted x → ⊥
 apart e = let z : _≡_ {A = ℕ} 0 1 = cc in omega arith
 
 pub written-read : WrittenRead
-unfolding misfit reading readMessage terrainBytes geometricBytes reportBytes
+unfolding misfit reading kindIn readMessage terrainBytes geometricBytes reportBytes
 written-read (Heartbeat h) payload t p g = (simp (heartbeats.written-read h g, g), refl)
 written-read (Initialization i) payload t p g = (simp (initializations.written-read i g), refl)
 written-read (Uplink u) payload t p g =
@@ -89,11 +89,7 @@ module _ (m : List ℕ) (x : Message) where
 
 same : (m : List ℕ) (x : Message) → AreBytes m → readMessage m ≡ Accepted x → Same m x x
 unfolding readMessage
-same m x bytes = go (eqb (length m) 0)
-  where
-    go : (t : Bool) → cond t (Refused 6) (readAs (kindOf (getD m 0 0)) m) ≡ Accepted x → Same m x x
-    go true h = absurd (apart h)
-    go false h = of-kind m x bytes (kindOf (getD m 0 0)) h
+same m x bytes = of-kind m x bytes (kindIn m)
 
 pub read-written : ReadWritten
 read-written m x bytes h = same m x bytes h .2

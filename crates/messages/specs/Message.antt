@@ -38,6 +38,35 @@ kindOf id =
     (cond (eqb id 30) kind.Basic
     (cond (eqb id 31) kind.Long kind.Unknown))))))))
 
+-- an empty message has none
+unfoldable pub kindIn : List ℕ → Kind
+kindIn m = cond (eqb (length m) 0) kind.Unknown (kindOf (getD m 0 0))
+
+-- 01's number and the kind's id for each kind: 6 where it is none
+abbrev pub kindNumber : Kind → ℕ
+kindNumber kind.Heartbeat = 0
+kindNumber kind.Initialization = 0
+kindNumber kind.Uplink = 0
+kindNumber kind.Height = 0
+kindNumber kind.Ownship = 0
+kindNumber kind.Geometric = 0
+kindNumber kind.Traffic = 0
+kindNumber kind.Basic = 0
+kindNumber kind.Long = 0
+kindNumber kind.Unknown = 6
+
+abbrev pub idOf : Kind → ℕ
+idOf kind.Heartbeat = 0
+idOf kind.Initialization = 2
+idOf kind.Uplink = 7
+idOf kind.Height = 9
+idOf kind.Ownship = 10
+idOf kind.Geometric = 11
+idOf kind.Traffic = 20
+idOf kind.Basic = 30
+idOf kind.Long = 31
+idOf kind.Unknown = 0
+
 abbrev pub readAs : Kind → List ℕ → Reading
 readAs kind.Heartbeat m = readHeartbeat m
 readAs kind.Initialization m = readInitialization m
@@ -52,7 +81,7 @@ readAs kind.Unknown m = Refused 6
 
 -- 6 for an empty message or an id that is not in the list; else as of the kind
 unfoldable pub readMessage : List ℕ → Reading
-readMessage m = cond (eqb (length m) 0) (Refused 6) (readAs (kindOf (getD m 0 0)) m)
+readMessage m = readAs (kindIn m) m
 
 -- a kind's answer as a reading
 abbrev pub asReading : ℕ → Message → Reading

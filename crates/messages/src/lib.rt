@@ -1,6 +1,6 @@
 // Reading and writing a message of whatever kind (001 §3; 01 'Messages and their lengths').
 ghost use mathlib.Core.Path.{_≡_};
-ghost use Rattle.messages.specs.Message.{kindOf, readAs, asReading, readMessage, WroteMessage};
+ghost use Rattle.messages.specs.Message.{kindOf, kindIn, readAs, asReading, readMessage, WroteMessage};
 use fields::Written;
 use kinds::BasicPassThrough;
 use kinds::GeometricAltitude;
@@ -32,10 +32,17 @@ pub enum Kind {
 pub fn read(message: &[u8]) -> Reading
     ensures { λ r. ⌜ r ≡ readMessage (now (message .entry)) ⌝ }
 {
+    read_as(kind_in(message), message)
+}
+
+// The kind whose id is the message's first byte.
+pub fn kind_in(message: &[u8]) -> Kind
+    ensures { λ r. ⌜ r ≡ kindIn (now (message .entry)) ⌝ }
+{
     if message.len() == 0 {
-        return Reading::Refused(6);
+        return Kind::Unknown;
     }
-    read_as(kind_of(message[0]), message)
+    kind_of(message[0])
 }
 
 fn kind_of(id: u8) -> Kind

@@ -71,20 +71,17 @@ impl<'a> Message<'a> {
     /// [`Error::WrongLength`], then [`Error::OutOfRange`].
     #[inline]
     pub fn read(message: &'a [u8]) -> Result<Self, Error> {
-        Ok(match message.first().copied() {
-            Some(id::INITIALIZATION) => {
+        Ok(match raw::kind(message).result()? {
+            id::INITIALIZATION => {
                 Self::Initialization(raw::read_initialization(message).result()?.into())
             }
-            Some(id::UPLINK) => Self::Uplink(Uplink::read(message)?),
-            Some(id::HEIGHT) => Self::Height(raw::read_height(message).result()?.try_into()?),
-            Some(id::OWNSHIP) => Self::Ownship(raw::read_ownship(message).result()?.try_into()?),
-            Some(id::GEOMETRIC) => {
-                Self::Geometric(raw::read_geometric(message).result()?.try_into()?)
-            }
-            Some(id::TRAFFIC) => Self::Traffic(raw::read_traffic(message).result()?.try_into()?),
-            Some(id::BASIC) => Self::Basic(raw::read_basic(message).result()?.try_into()?),
-            Some(id::LONG) => Self::Long(raw::read_long(message).result()?.try_into()?),
-            // A heartbeat, or the library answers 6.
+            id::UPLINK => Self::Uplink(Uplink::read(message)?),
+            id::HEIGHT => Self::Height(raw::read_height(message).result()?.try_into()?),
+            id::OWNSHIP => Self::Ownship(raw::read_ownship(message).result()?.try_into()?),
+            id::GEOMETRIC => Self::Geometric(raw::read_geometric(message).result()?.try_into()?),
+            id::TRAFFIC => Self::Traffic(raw::read_traffic(message).result()?.try_into()?),
+            id::BASIC => Self::Basic(raw::read_basic(message).result()?.try_into()?),
+            id::LONG => Self::Long(raw::read_long(message).result()?.try_into()?),
             _ => Self::Heartbeat(raw::read_heartbeat(message).result()?.try_into()?),
         })
     }

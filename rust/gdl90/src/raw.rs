@@ -105,6 +105,8 @@ macro_rules! readers {
 }
 
 readers! {
+    /// The id of the message's kind: 6.
+    kind: gdl90_kind -> u8;
     /// A heartbeat's numbers: 6, 7, 8.
     read_heartbeat: gdl90_read_heartbeat -> Heartbeat;
     /// An initialization's bytes: 6, 7.

@@ -96,6 +96,7 @@ fn messages() -> Vec<String> {
 
 fn answers() -> Vec<String> {
     layout! {
+        gdl90_kind_answer: Read<u8> { number, value as id }
         gdl90_heartbeat_read: Read<Heartbeat> { number, value as heartbeat }
         gdl90_initialization_read: Read<Initialization> { number, value as initialization }
         gdl90_uplink_read: Read<Uplink> { number, value as uplink }
