@@ -7,16 +7,16 @@ use std::process::ExitCode;
 fn main() -> ExitCode {
     let folder = std::env::var_os("DEP_GDL90_LIB_DIR").expect("the crate gdl90 says it");
     let folder = PathBuf::from(folder);
-    let archive = folder.join("libby_value.a");
+    let archive = folder.join("libby_value_benchmark.a");
     println!("cargo:rerun-if-changed={}", archive.display());
     if !archive.is_file() {
         eprintln!(
-            "{} is not there: run `rt staticlib by_value` first",
+            "{} is not there: run `rt staticlib by_value_benchmark` first",
             archive.display()
         );
         return ExitCode::FAILURE;
     }
     println!("cargo:rustc-link-search=native={}", folder.display());
-    println!("cargo:rustc-link-lib=static=by_value");
+    println!("cargo:rustc-link-lib=static=by_value_benchmark");
     ExitCode::SUCCESS
 }

@@ -12,11 +12,11 @@ use Rattle.numbers.specs.Signed.{fieldOf}
 use Rattle.numbers.proofs.Bytes.{byte-at, spread}
 use Rattle.numbers.proofs.Every.{both, chosen}
 use Rattle.numbers.proofs.Signed.{field-signed, signed-field}
-use Rattle.kinds.specs.declared.Height.{Height}
-use Rattle.kinds.specs.declared.Height.the-variants.{Feet, None}
-use Rattle.kinds.specs.declared.HeightAboveTerrain.{HeightAboveTerrain}
-use Rattle.kinds.specs.declared.Merit.{Merit}
-use Rattle.kinds.specs.declared.Merit.the-variants.{Metres, Over, None as no-merit}
+use Rattle.message_types.specs.declared.Height.{Height}
+use Rattle.message_types.specs.declared.Height.the-variants.{Feet, None}
+use Rattle.message_types.specs.declared.HeightAboveTerrain.{HeightAboveTerrain}
+use Rattle.message_types.specs.declared.Merit.{Merit}
+use Rattle.message_types.specs.declared.Merit.the-variants.{Metres, Over, None as no-merit}
 use Rattle.altitudes.specs.Height.{heightOf, heightField, goodHeight, terrainIn, terrainBytes}
 use Rattle.altitudes.specs.Geometric.{overMerit, meritOf, meritField, goodMerit, geometricIn, geometricBytes}
 use Rattle.altitudes.specs.Claims.{TypedHeight, TerrainWrittenRead, TerrainReadWritten, GeometricWrittenRead, GeometricReadWritten}

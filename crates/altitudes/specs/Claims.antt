@@ -7,10 +7,10 @@ use mathlib.Core.List.{List}
 use lib.ListN.{length, getD}
 use lib.Signed.{mag}
 use Rattle.numbers.specs.Bytes.{AreBytes}
-use Rattle.kinds.specs.declared.Height.{Height}
-use Rattle.kinds.specs.declared.Height.the-variants.{Feet, None}
-use Rattle.kinds.specs.declared.HeightAboveTerrain.{HeightAboveTerrain}
-use Rattle.kinds.specs.declared.GeometricAltitude.{GeometricAltitude}
+use Rattle.message_types.specs.declared.Height.{Height}
+use Rattle.message_types.specs.declared.Height.the-variants.{Feet, None}
+use Rattle.message_types.specs.declared.HeightAboveTerrain.{HeightAboveTerrain}
+use Rattle.message_types.specs.declared.GeometricAltitude.{GeometricAltitude}
 use Rattle.altitudes.specs.Height.{goodTerrain, terrainIn, terrainBytes}
 use Rattle.altitudes.specs.Geometric.{goodGeometric, geometricIn, geometricBytes}
 

@@ -8,14 +8,14 @@ use lib.Dec.{eqb, ltb, leb}
 use lib.IntN.{pos}
 use lib.ListN.{getD}
 use Rattle.numbers.specs.Signed.{signedIn, fieldOf}
-use Rattle.fields.specs.Reading.{reading}
-use Rattle.kinds.specs.declared.Merit.{Merit}
-use Rattle.kinds.specs.declared.Merit.the-variants.{Metres, Over, None}
-use Rattle.kinds.specs.declared.GeometricAltitude.{GeometricAltitude}
-use Rattle.kinds.specs.declared.GeometricRead.{GeometricRead}
-use Rattle.kinds.specs.declared.Message.the-variants as kind
-use Rattle.kinds.specs.declared.Reading.{Reading}
-use Rattle.kinds.specs.declared.Reading.the-variants.{Message, Refused}
+use Rattle.codec.specs.Reading.{reading}
+use Rattle.message_types.specs.declared.Merit.{Merit}
+use Rattle.message_types.specs.declared.Merit.the-variants.{Metres, Over, None}
+use Rattle.message_types.specs.declared.GeometricAltitude.{GeometricAltitude}
+use Rattle.message_types.specs.declared.GeometricRead.{GeometricRead}
+use Rattle.message_types.specs.declared.Message.the-variants as kind
+use Rattle.message_types.specs.declared.Reading.{Reading}
+use Rattle.message_types.specs.declared.Reading.the-variants.{Message, Refused}
 
 -- the mark of a merit over 32,766 metres (01)
 abbrev pub overMerit : ℕ

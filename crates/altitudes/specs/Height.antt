@@ -7,14 +7,14 @@ use lib.Dec.{eqb}
 use lib.IntN.{pos}
 use lib.ListN.{getD}
 use Rattle.numbers.specs.Signed.{signedIn, fieldOf}
-use Rattle.fields.specs.Reading.{reading}
-use Rattle.kinds.specs.declared.Height.{Height}
-use Rattle.kinds.specs.declared.Height.the-variants.{Feet, None}
-use Rattle.kinds.specs.declared.HeightAboveTerrain.{HeightAboveTerrain}
-use Rattle.kinds.specs.declared.HeightRead.{HeightRead}
-use Rattle.kinds.specs.declared.Message.the-variants as kind
-use Rattle.kinds.specs.declared.Reading.{Reading}
-use Rattle.kinds.specs.declared.Reading.the-variants.{Message, Refused}
+use Rattle.codec.specs.Reading.{reading}
+use Rattle.message_types.specs.declared.Height.{Height}
+use Rattle.message_types.specs.declared.Height.the-variants.{Feet, None}
+use Rattle.message_types.specs.declared.HeightAboveTerrain.{HeightAboveTerrain}
+use Rattle.message_types.specs.declared.HeightRead.{HeightRead}
+use Rattle.message_types.specs.declared.Message.the-variants as kind
+use Rattle.message_types.specs.declared.Reading.{Reading}
+use Rattle.message_types.specs.declared.Reading.the-variants.{Message, Refused}
 
 unfoldable pub heightOf : ℕ → Height
 heightOf n = cond (eqb n 0x8000) None (Feet (record { feet = signedIn 0x8000 n }))

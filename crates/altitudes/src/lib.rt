@@ -4,16 +4,16 @@ ghost use mathlib.Core.Bool.{cond};
 ghost use Prim.Native.Nat.{_+_, _*_, _≤_, _<_};
 ghost use lib.ListN.{length};
 ghost use Rattle.numbers.specs.Signed.{signedIn, fieldOf};
-ghost use Rattle.fields.specs.Writing.{Wrote};
+ghost use Rattle.codec.specs.Writing.{Wrote};
 ghost use Rattle.altitudes.specs.Height.{heightOf, heightField, goodHeight, goodTerrain, terrainIn, terrainBytes, heightRefused, heightRead};
 ghost use Rattle.altitudes.specs.Geometric.{meritOf, meritField, goodMerit, goodGeometric, geometricIn, geometricBytes, geometricRefused, geometricRead};
-use fields::Written;
-use kinds::GeometricAltitude;
-use kinds::GeometricRead;
-use kinds::Height;
-use kinds::HeightAboveTerrain;
-use kinds::HeightRead;
-use kinds::Merit;
+use codec::Written;
+use message_types::GeometricAltitude;
+use message_types::GeometricRead;
+use message_types::Height;
+use message_types::HeightAboveTerrain;
+use message_types::HeightRead;
+use message_types::Merit;
 use units::GeometricSteps;
 use units::TerrainFeet;
 
@@ -23,7 +23,7 @@ const OVER_MERIT: u16 = 0x7EEE;
 pub fn read_height(message: &[u8]) -> HeightRead
     ensures { λ r. ⌜ r ≡ heightRead (now (message .entry)) ⌝ }
 {
-    let misfit = fields::misfit(message, HeightAboveTerrain::ID, HeightAboveTerrain::LENGTH);
+    let misfit = codec::misfit(message, HeightAboveTerrain::ID, HeightAboveTerrain::LENGTH);
     if misfit != 0 {
         return height_refused(misfit);
     }
@@ -115,7 +115,7 @@ pub fn write_height(value: HeightAboveTerrain, out: &mut [u8]) -> Written
     let height = value.height;
     if is_good_height(height) {
         let bytes = height_bytes(value);
-        return fields::put(&bytes, out);
+        return codec::put(&bytes, out);
     }
     Written::Refused(8)
 }
@@ -131,7 +131,7 @@ fn height_bytes(value: HeightAboveTerrain) -> [u8; 3]
 pub fn read_geometric(message: &[u8]) -> GeometricRead
     ensures { λ r. ⌜ r ≡ geometricRead (now (message .entry)) ⌝ }
 {
-    let misfit = fields::misfit(message, GeometricAltitude::ID, GeometricAltitude::LENGTH);
+    let misfit = codec::misfit(message, GeometricAltitude::ID, GeometricAltitude::LENGTH);
     if misfit != 0 {
         return geometric_refused(misfit);
     }
@@ -214,7 +214,7 @@ pub fn write_geometric(value: GeometricAltitude, out: &mut [u8]) -> Written
     let merit = value.merit;
     if is_good_merit(merit) {
         let bytes = geometric_bytes(value);
-        return fields::put(&bytes, out);
+        return codec::put(&bytes, out);
     }
     Written::Refused(8)
 }

@@ -6,9 +6,9 @@ use Prim.Native.Nat.{ℕ}
 use mathlib.Core.List.{List}
 use lib.ListN.{length}
 use Rattle.numbers.specs.Lent.{written}
-use Rattle.fields.specs.declared.Written.{Written}
-use Rattle.fields.specs.Writing.{output, writing}
-use Rattle.fields.specs.Writing as fields
+use Rattle.codec.specs.declared.Written.{Written}
+use Rattle.codec.specs.Writing.{output, writing}
+use Rattle.codec.specs.Writing as fields
 use Rattle.gdl90.specs.declared.WriteAnswer.{WriteAnswer}
 use Rattle.gdl90.specs.Messages.{writeAnswer, AnsweredBy, AnsweredWriting}
 

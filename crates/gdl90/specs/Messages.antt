@@ -7,27 +7,27 @@ use mathlib.Core.List.{List}
 use lib.Dec.{leb}
 use lib.ListN.{length}
 use Rattle.numbers.specs.Lent.{written}
-use Rattle.fields.specs.declared.Written.{Written}
-use Rattle.fields.specs.Writing.{number, size, output, writing}
+use Rattle.codec.specs.declared.Written.{Written}
+use Rattle.codec.specs.Writing.{number, size, output, writing}
 use Rattle.altitudes.specs.Height.{heightRead}
 use Rattle.altitudes.specs.Geometric.{geometricRead}
 use Rattle.passing.specs.Uplink.{uplinkRead}
 use Rattle.passing.specs.PassThrough.{basicRead, longRead}
-use Rattle.kinds.specs.declared.Ownship.{Ownship}
-use Rattle.kinds.specs.declared.Traffic.{Traffic}
+use Rattle.message_types.specs.declared.Ownship.{Ownship}
+use Rattle.message_types.specs.declared.Traffic.{Traffic}
 use Rattle.report.specs.Reading.{goodReport}
 use Rattle.messages.specs.declared.Kind.{Kind}
 use Rattle.messages.specs.Message.{kindNumber, idOf}
 use Rattle.gdl90.specs.declared.KindAnswer.{KindAnswer}
 use Rattle.gdl90.specs.declared.WriteAnswer.{WriteAnswer}
-use Rattle.flat_report.specs.declared.FlatReport.{FlatReport}
-use Rattle.flat.specs.declared.FlatUplinkRead.{FlatUplinkRead}
-use Rattle.flat.specs.declared.FlatHeightRead.{FlatHeightRead}
-use Rattle.flat.specs.declared.FlatGeometricRead.{FlatGeometricRead}
-use Rattle.flat.specs.declared.FlatBasicRead.{FlatBasicRead}
-use Rattle.flat.specs.declared.FlatLongRead.{FlatLongRead}
-use Rattle.flat.specs.Flat.{flatUplink, flatHeight, flatGeometric, flatBasic, flatLong}
-use Rattle.flat_report.specs.Flat.{reportFrom}
+use Rattle.c_report.specs.declared.FlatReport.{FlatReport}
+use Rattle.c_structs.specs.declared.FlatUplinkRead.{FlatUplinkRead}
+use Rattle.c_structs.specs.declared.FlatHeightRead.{FlatHeightRead}
+use Rattle.c_structs.specs.declared.FlatGeometricRead.{FlatGeometricRead}
+use Rattle.c_structs.specs.declared.FlatBasicRead.{FlatBasicRead}
+use Rattle.c_structs.specs.declared.FlatLongRead.{FlatLongRead}
+use Rattle.c_structs.specs.Flat.{flatUplink, flatHeight, flatGeometric, flatBasic, flatLong}
+use Rattle.c_report.specs.Flat.{reportFrom}
 
 abbrev pub kindAnswer : Kind → KindAnswer
 kindAnswer k = record { number = kindNumber k; id = idOf k }

@@ -6,15 +6,15 @@ ghost use Rattle.fcs.specs.Fcs.{fcs};
 ghost use Rattle.framing.specs.Framing.{framing, output};
 ghost use Rattle.collecting.specs.Step.{held};
 ghost use Rattle.collecting.specs.Stream.{run};
-ghost use Rattle.status.specs.Heartbeat.{goodHeartbeat, heartbeatBytes, heartbeatRead};
-ghost use Rattle.status.specs.Initialization.{goodInitialization, initializationBytes, initializationRead};
+ghost use Rattle.heartbeat.specs.Heartbeat.{goodHeartbeat, heartbeatBytes, heartbeatRead};
+ghost use Rattle.initialization.specs.Initialization.{goodInitialization, initializationBytes, initializationRead};
 ghost use Rattle.altitudes.specs.Height.{goodTerrain, terrainBytes};
 ghost use Rattle.altitudes.specs.Geometric.{goodGeometric, geometricBytes};
 ghost use Rattle.passing.specs.Uplink.{uplinkBytes, writingUplink};
 ghost use Rattle.passing.specs.PassThrough.{goodBasicPassThrough, basicPassThroughBytes, goodLongPassThrough, longPassThroughBytes};
 ghost use Rattle.report.specs.Bytes.{ownshipBytes, trafficBytes};
 ghost use Rattle.report.specs.Reading.{ownshipRead, trafficRead};
-ghost use Rattle.flat.specs.Flat.{uplinkFrom, terrainFrom, geometricFrom, basicFrom, longFrom};
+ghost use Rattle.c_structs.specs.Flat.{uplinkFrom, terrainFrom, geometricFrom, basicFrom, longFrom};
 ghost use Rattle.gdl90.specs.Messages.{kindAnswer, uplinkAnswer, heightAnswer, geometricAnswer, basicAnswer, longAnswer};
 ghost use Rattle.gdl90.specs.Messages.{writeAnswer, AnsweredBy, AnsweredWriting, ownshipFrom, trafficFrom, goodFlatReport};
 ghost use Rattle.messages.specs.Message.{kindIn, kindNumber, idOf};
@@ -27,29 +27,29 @@ ghost use Rattle.units.specs.Feet.{pressureFeet, geometricFeet, terrainFeet};
 ghost use Rattle.gdl90.specs.Payload.{listAnswer, nthAnswer};
 ghost use Rattle.uplink.specs.declared.Found.the-variants.{Refused};
 ghost use Rattle.gdl90.specs.Degrees.{degreesAnswer};
+use c_report::FlatReport;
+use c_report::FlatReportRead;
+use c_structs::FlatBasic;
+use c_structs::FlatBasicRead;
+use c_structs::FlatGeometric;
+use c_structs::FlatGeometricRead;
+use c_structs::FlatHeight;
+use c_structs::FlatHeightRead;
+use c_structs::FlatLong;
+use c_structs::FlatLongRead;
+use c_structs::FlatUplink;
+use c_structs::FlatUplinkRead;
+use codec::Written;
 use collecting::Answer;
 use collecting::Control;
 use collecting::Phase;
-use fields::Written;
-use flat::FlatBasic;
-use flat::FlatBasicRead;
-use flat::FlatGeometric;
-use flat::FlatGeometricRead;
-use flat::FlatHeight;
-use flat::FlatHeightRead;
-use flat::FlatLong;
-use flat::FlatLongRead;
-use flat::FlatUplink;
-use flat::FlatUplinkRead;
-use flat_report::FlatReport;
-use flat_report::FlatReportRead;
 use framing::Framed;
-use kinds::Heartbeat;
-use kinds::HeartbeatRead;
-use kinds::Initialization;
-use kinds::InitializationRead;
-use kinds::Ownship;
-use kinds::Traffic;
+use message_types::Heartbeat;
+use message_types::HeartbeatRead;
+use message_types::Initialization;
+use message_types::InitializationRead;
+use message_types::Ownship;
+use message_types::Traffic;
 use messages::Kind;
 use units::GeometricSteps;
 use units::InDegrees;
@@ -264,13 +264,13 @@ fn id_of(kind: Kind) -> u8
     match kind {
         Kind::Heartbeat => Heartbeat::ID,
         Kind::Initialization => Initialization::ID,
-        Kind::Uplink => kinds::Uplink::ID,
-        Kind::Height => kinds::HeightAboveTerrain::ID,
+        Kind::Uplink => message_types::Uplink::ID,
+        Kind::Height => message_types::HeightAboveTerrain::ID,
         Kind::Ownship => Ownship::ID,
-        Kind::Geometric => kinds::GeometricAltitude::ID,
+        Kind::Geometric => message_types::GeometricAltitude::ID,
         Kind::Traffic => Traffic::ID,
-        Kind::Basic => kinds::BasicPassThrough::ID,
-        Kind::Long => kinds::LongPassThrough::ID,
+        Kind::Basic => message_types::BasicPassThrough::ID,
+        Kind::Long => message_types::LongPassThrough::ID,
         Kind::Unknown => 0,
     }
 }
@@ -280,14 +280,14 @@ fn id_of(kind: Kind) -> u8
 pub extern "C" fn gdl90_read_heartbeat(message: &[u8]) -> HeartbeatRead
     ensures { λ r. ⌜ r ≡ heartbeatRead (now (message .entry)) ⌝ }
 {
-    status::read_heartbeat(message)
+    heartbeat::read_heartbeat(message)
 }
 
 #[no_mangle]
 pub extern "C" fn gdl90_read_initialization(message: &[u8]) -> InitializationRead
     ensures { λ r. ⌜ r ≡ initializationRead (now (message .entry)) ⌝ }
 {
-    status::read_initialization(message)
+    initialization::read_initialization(message)
 }
 
 #[no_mangle]
@@ -296,7 +296,7 @@ pub extern "C" fn gdl90_read_uplink(message: &[u8]) -> FlatUplinkRead
 {
     let read = passing::read_uplink(message);
     let value = read.uplink;
-    let uplink = flat::flat_uplink(value);
+    let uplink = c_structs::flat_uplink(value);
     FlatUplinkRead {
         number: read.number,
         uplink,
@@ -309,7 +309,7 @@ pub extern "C" fn gdl90_read_height(message: &[u8]) -> FlatHeightRead
 {
     let read = altitudes::read_height(message);
     let value = read.height;
-    let height = flat::flat_height(value);
+    let height = c_structs::flat_height(value);
     FlatHeightRead {
         number: read.number,
         height,
@@ -329,7 +329,7 @@ pub extern "C" fn gdl90_read_geometric(message: &[u8]) -> FlatGeometricRead
 {
     let read = altitudes::read_geometric(message);
     let value = read.geometric;
-    let geometric = flat::flat_geometric(value);
+    let geometric = c_structs::flat_geometric(value);
     FlatGeometricRead {
         number: read.number,
         geometric,
@@ -349,7 +349,7 @@ pub extern "C" fn gdl90_read_basic(message: &[u8]) -> FlatBasicRead
 {
     let read = passing::read_basic_pass_through(message);
     let value = read.basic;
-    let basic = flat::flat_basic(value);
+    let basic = c_structs::flat_basic(value);
     FlatBasicRead {
         number: read.number,
         basic,
@@ -362,7 +362,7 @@ pub extern "C" fn gdl90_read_long(message: &[u8]) -> FlatLongRead
 {
     let read = passing::read_long_pass_through(message);
     let value = read.long;
-    let long = flat::flat_long(value);
+    let long = c_structs::flat_long(value);
     FlatLongRead {
         number: read.number,
         long,
@@ -381,7 +381,7 @@ pub struct WriteAnswer {
 pub extern "C" fn gdl90_write_heartbeat(heartbeat: Heartbeat, out: &mut [u8]) -> WriteAnswer
     ensures { λ r. ⌜ AnsweredWriting (goodHeartbeat heartbeat) (heartbeatBytes heartbeat) (now (out .entry)) r (now (out .exit)) ⌝ }
 {
-    let written = status::write_heartbeat(heartbeat, out);
+    let written = heartbeat::write_heartbeat(heartbeat, out);
     write_answer(written)
 }
 
@@ -392,7 +392,7 @@ pub extern "C" fn gdl90_write_initialization(
 ) -> WriteAnswer
     ensures { λ r. ⌜ AnsweredWriting (goodInitialization initialization) (initializationBytes initialization) (now (out .entry)) r (now (out .exit)) ⌝ }
 {
-    let written = status::write_initialization(initialization, out);
+    let written = initialization::write_initialization(initialization, out);
     write_answer(written)
 }
 
@@ -404,7 +404,7 @@ pub extern "C" fn gdl90_write_uplink(
 ) -> WriteAnswer
     ensures { λ r. ⌜ AnsweredBy (writingUplink (uplinkFrom uplink) (now (payload .entry)) (length (now (out .entry)))) (uplinkBytes (uplinkFrom uplink) (now (payload .entry))) (now (out .entry)) r (now (out .exit)) ⌝ }
 {
-    let value = flat::uplink_from(uplink);
+    let value = c_structs::uplink_from(uplink);
     let written = passing::write_uplink(value, payload, out);
     write_answer(written)
 }
@@ -413,7 +413,7 @@ pub extern "C" fn gdl90_write_uplink(
 pub extern "C" fn gdl90_write_height(height: FlatHeight, out: &mut [u8]) -> WriteAnswer
     ensures { λ r. ⌜ AnsweredWriting (goodTerrain (terrainFrom height)) (terrainBytes (terrainFrom height)) (now (out .entry)) r (now (out .exit)) ⌝ }
 {
-    let value = flat::terrain_from(height);
+    let value = c_structs::terrain_from(height);
     let written = altitudes::write_height(value, out);
     write_answer(written)
 }
@@ -423,7 +423,7 @@ pub extern "C" fn gdl90_write_ownship(report: FlatReport, out: &mut [u8]) -> Wri
     ensures { λ r. ⌜ AnsweredWriting (goodFlatReport report) (ownshipBytes (ownshipFrom report)) (now (out .entry)) r (now (out .exit)) ⌝ }
 {
     if report.track_kind <= LAST_TRACK_KIND {
-        let report = flat_report::report_from(report);
+        let report = c_report::report_from(report);
         let written = report::write_ownship(Ownship { report }, out);
         return write_answer(written);
     }
@@ -437,7 +437,7 @@ pub extern "C" fn gdl90_write_ownship(report: FlatReport, out: &mut [u8]) -> Wri
 pub extern "C" fn gdl90_write_geometric(geometric: FlatGeometric, out: &mut [u8]) -> WriteAnswer
     ensures { λ r. ⌜ AnsweredWriting (goodGeometric (geometricFrom geometric)) (geometricBytes (geometricFrom geometric)) (now (out .entry)) r (now (out .exit)) ⌝ }
 {
-    let value = flat::geometric_from(geometric);
+    let value = c_structs::geometric_from(geometric);
     let written = altitudes::write_geometric(value, out);
     write_answer(written)
 }
@@ -447,7 +447,7 @@ pub extern "C" fn gdl90_write_traffic(report: FlatReport, out: &mut [u8]) -> Wri
     ensures { λ r. ⌜ AnsweredWriting (goodFlatReport report) (trafficBytes (trafficFrom report)) (now (out .entry)) r (now (out .exit)) ⌝ }
 {
     if report.track_kind <= LAST_TRACK_KIND {
-        let report = flat_report::report_from(report);
+        let report = c_report::report_from(report);
         let written = report::write_traffic(Traffic { report }, out);
         return write_answer(written);
     }
@@ -461,7 +461,7 @@ pub extern "C" fn gdl90_write_traffic(report: FlatReport, out: &mut [u8]) -> Wri
 pub extern "C" fn gdl90_write_basic(basic: FlatBasic, out: &mut [u8]) -> WriteAnswer
     ensures { λ r. ⌜ AnsweredWriting (goodBasicPassThrough (basicFrom basic)) (basicPassThroughBytes (basicFrom basic)) (now (out .entry)) r (now (out .exit)) ⌝ }
 {
-    let value = flat::basic_from(basic);
+    let value = c_structs::basic_from(basic);
     let written = passing::write_basic_pass_through(value, out);
     write_answer(written)
 }
@@ -470,7 +470,7 @@ pub extern "C" fn gdl90_write_basic(basic: FlatBasic, out: &mut [u8]) -> WriteAn
 pub extern "C" fn gdl90_write_long(long: FlatLong, out: &mut [u8]) -> WriteAnswer
     ensures { λ r. ⌜ AnsweredWriting (goodLongPassThrough (longFrom long)) (longPassThroughBytes (longFrom long)) (now (out .entry)) r (now (out .exit)) ⌝ }
 {
-    let value = flat::long_from(long);
+    let value = c_structs::long_from(long);
     let written = passing::write_long_pass_through(value, out);
     write_answer(written)
 }

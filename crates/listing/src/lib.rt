@@ -13,7 +13,7 @@ ghost use Rattle.listing.specs.Listing.{limit, longest, state, answerLin
 ghost use Rattle.listing.specs.Listing.{opening as Listing·opening, start as Listing·start, steady as Listing·steady, counted as Listing·counted, passed as Listing·passed, holds as Listing·holds, settled as Listing·settled};
 use collecting::Answer;
 use collecting::Control;
-use kinds::Reading;
+use message_types::Reading;
 
 // As many bytes are listed at most.
 pub const LIMIT: u64 = 4294967295;

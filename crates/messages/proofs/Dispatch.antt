@@ -4,12 +4,12 @@ use mathlib.Core.Path.{_≡_, sym, ap, _∙_, subst}
 use mathlib.Core.Bool.{true}
 use Prim.Native.Nat.{ℕ}
 use mathlib.Core.List.{List}
-use Rattle.fields.specs.declared.Written.{Written}
-use Rattle.fields.specs.Writing.{Wrote}
-use Rattle.kinds.specs.declared.Message.{Message}
-use Rattle.kinds.specs.declared.Message.the-variants.{Uplink as an-uplink}
-use Rattle.kinds.specs.declared.Reading.{Reading}
-use Rattle.kinds.specs.declared.Uplink.{Uplink}
+use Rattle.codec.specs.declared.Written.{Written}
+use Rattle.codec.specs.Writing.{Wrote}
+use Rattle.message_types.specs.declared.Message.{Message}
+use Rattle.message_types.specs.declared.Message.the-variants.{Uplink as an-uplink}
+use Rattle.message_types.specs.declared.Reading.{Reading}
+use Rattle.message_types.specs.declared.Uplink.{Uplink}
 use Rattle.passing.specs.Uplink.{writingUplink, WroteUplink}
 use Rattle.messages.specs.declared.Kind.{Kind}
 use Rattle.messages.specs.Message.{readAs, messageBytes, goodMessage, goodPayload, writingMessage, WroteMessage}

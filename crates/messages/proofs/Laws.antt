@@ -9,22 +9,22 @@ use lib.Dec.{eqb}
 use lib.ListN.{length, drop, getD, length-drop}
 use borrow.Author.Tests.{eqb-true, eq-eqb, ne-eqb}
 use Rattle.numbers.specs.Bytes.{AreBytes}
-use Rattle.fields.specs.Reading.{misfit, reading}
-use Rattle.fields.proofs.Outcomes.{read-only}
-use Rattle.kinds.specs.declared.Message.{Message}
-use Rattle.kinds.specs.declared.Message.the-variants.{Heartbeat, Initialization, Uplink, Height, Ownship, Geometric, Traffic, Basic, Long}
-use Rattle.kinds.specs.declared.Reading.{Reading}
-use Rattle.kinds.specs.declared.Reading.the-variants.{Message as Accepted, Refused}
-use Rattle.status.specs.Heartbeat.{heartbeatIn, goodHeartbeat}
-use Rattle.status.specs.Initialization.{initializationIn, goodInitialization}
+use Rattle.codec.specs.Reading.{misfit, reading}
+use Rattle.codec.proofs.Outcomes.{read-only}
+use Rattle.message_types.specs.declared.Message.{Message}
+use Rattle.message_types.specs.declared.Message.the-variants.{Heartbeat, Initialization, Uplink, Height, Ownship, Geometric, Traffic, Basic, Long}
+use Rattle.message_types.specs.declared.Reading.{Reading}
+use Rattle.message_types.specs.declared.Reading.the-variants.{Message as Accepted, Refused}
+use Rattle.heartbeat.specs.Heartbeat.{heartbeatIn, goodHeartbeat}
+use Rattle.initialization.specs.Initialization.{initializationIn, goodInitialization}
 use Rattle.altitudes.specs.Height.{terrainIn, goodTerrain, terrainBytes}
 use Rattle.altitudes.specs.Geometric.{geometricIn, goodGeometric, geometricBytes}
 use Rattle.passing.specs.Uplink.{uplinkIn, goodUplink, uplinkBytes}
 use Rattle.passing.specs.PassThrough.{basicPassThroughIn, goodBasicPassThrough, longPassThroughIn, goodLongPassThrough}
 use Rattle.report.specs.Bytes.{reportIn, reportBytes}
 use Rattle.report.specs.Reading.{goodReport}
-use Rattle.status.proofs.Heartbeats as heartbeats
-use Rattle.status.proofs.Initializations as initializations
+use Rattle.heartbeat.proofs.Laws as heartbeats
+use Rattle.initialization.proofs.Laws as initializations
 use Rattle.altitudes.proofs.Back as altitudes
 use Rattle.passing.proofs.Uplinks as uplinks
 use Rattle.passing.proofs.PassThroughs as pass-throughs

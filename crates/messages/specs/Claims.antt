@@ -7,9 +7,9 @@ use mathlib.Core.List.{List}
 use lib.ListN.{drop}
 use lib.Signed.{mag}
 use Rattle.numbers.specs.Bytes.{AreBytes}
-use Rattle.kinds.specs.declared.Message.{Message}
-use Rattle.kinds.specs.declared.Message.the-variants.{Heartbeat, Initialization, Uplink, Height, Ownship, Geometric, Traffic, Basic, Long}
-use Rattle.kinds.specs.declared.Reading.the-variants.{Message as Accepted}
+use Rattle.message_types.specs.declared.Message.{Message}
+use Rattle.message_types.specs.declared.Message.the-variants.{Heartbeat, Initialization, Uplink, Height, Ownship, Geometric, Traffic, Basic, Long}
+use Rattle.message_types.specs.declared.Reading.the-variants.{Message as Accepted}
 use Rattle.altitudes.specs.Claims.{TypedHeight}
 use Rattle.passing.specs.Uplink.{payloadOf}
 use Rattle.messages.specs.Message.{messageBytes, goodMessage, goodPayload, carried, readMessage}

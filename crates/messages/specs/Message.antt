@@ -7,15 +7,15 @@ use mathlib.Core.List.{List, []}
 use lib.Dec.{eqb}
 use lib.ListN.{length, getD}
 use Rattle.numbers.specs.Lent.{written}
-use Rattle.fields.specs.declared.Written.{Written}
-use Rattle.fields.specs.declared.Written.the-variants.{Refused as NotWritten}
-use Rattle.fields.specs.Writing.{writing, output}
-use Rattle.kinds.specs.declared.Message.{Message}
-use Rattle.kinds.specs.declared.Message.the-variants.{Heartbeat, Initialization, Uplink, Height, Ownship, Geometric, Traffic, Basic, Long}
-use Rattle.kinds.specs.declared.Reading.{Reading}
-use Rattle.kinds.specs.declared.Reading.the-variants.{Message as Accepted, Refused}
-use Rattle.status.specs.Heartbeat.{goodHeartbeat, heartbeatBytes, readHeartbeat}
-use Rattle.status.specs.Initialization.{goodInitialization, initializationBytes, readInitialization}
+use Rattle.codec.specs.declared.Written.{Written}
+use Rattle.codec.specs.declared.Written.the-variants.{Refused as NotWritten}
+use Rattle.codec.specs.Writing.{writing, output}
+use Rattle.message_types.specs.declared.Message.{Message}
+use Rattle.message_types.specs.declared.Message.the-variants.{Heartbeat, Initialization, Uplink, Height, Ownship, Geometric, Traffic, Basic, Long}
+use Rattle.message_types.specs.declared.Reading.{Reading}
+use Rattle.message_types.specs.declared.Reading.the-variants.{Message as Accepted, Refused}
+use Rattle.heartbeat.specs.Heartbeat.{goodHeartbeat, heartbeatBytes, readHeartbeat}
+use Rattle.initialization.specs.Initialization.{goodInitialization, initializationBytes, readInitialization}
 use Rattle.altitudes.specs.Height.{goodTerrain, terrainBytes, readTerrain}
 use Rattle.altitudes.specs.Geometric.{goodGeometric, geometricBytes, readGeometric}
 use Rattle.passing.specs.Uplink.{goodUplink, uplinkBytes, readUplink}

@@ -1,18 +1,18 @@
 // Reading and writing a message of whatever kind (001 §3; 01 'Messages and their lengths').
 ghost use mathlib.Core.Path.{_≡_};
 ghost use Rattle.messages.specs.Message.{kindOf, kindIn, readAs, asReading, readMessage, WroteMessage};
-use fields::Written;
-use kinds::BasicPassThrough;
-use kinds::GeometricAltitude;
-use kinds::Heartbeat;
-use kinds::HeightAboveTerrain;
-use kinds::Initialization;
-use kinds::LongPassThrough;
-use kinds::Message;
-use kinds::Ownship;
-use kinds::Reading;
-use kinds::Traffic;
-use kinds::Uplink;
+use codec::Written;
+use message_types::BasicPassThrough;
+use message_types::GeometricAltitude;
+use message_types::Heartbeat;
+use message_types::HeightAboveTerrain;
+use message_types::Initialization;
+use message_types::LongPassThrough;
+use message_types::Message;
+use message_types::Ownship;
+use message_types::Reading;
+use message_types::Traffic;
+use message_types::Uplink;
 
 // What an id says.
 pub enum Kind {
@@ -67,12 +67,12 @@ fn read_as(kind: Kind, message: &[u8]) -> Reading
 {
     match kind {
         Kind::Heartbeat => {
-            let read = status::read_heartbeat(message);
+            let read = heartbeat::read_heartbeat(message);
             let heartbeat = read.heartbeat;
             as_reading(read.number, Message::Heartbeat(heartbeat))
         }
         Kind::Initialization => {
-            let read = status::read_initialization(message);
+            let read = initialization::read_initialization(message);
             let initialization = read.initialization;
             as_reading(read.number, Message::Initialization(initialization))
         }
@@ -89,7 +89,7 @@ fn read_as(kind: Kind, message: &[u8]) -> Reading
         Kind::Ownship => {
             let read = report::read_ownship(message);
             let flat = read.report;
-            let report = flat_report::report_from(flat);
+            let report = c_report::report_from(flat);
             as_reading(read.number, Message::Ownship(Ownship { report }))
         }
         Kind::Geometric => {
@@ -100,7 +100,7 @@ fn read_as(kind: Kind, message: &[u8]) -> Reading
         Kind::Traffic => {
             let read = report::read_traffic(message);
             let flat = read.report;
-            let report = flat_report::report_from(flat);
+            let report = c_report::report_from(flat);
             as_reading(read.number, Message::Traffic(Traffic { report }))
         }
         Kind::Basic => {
@@ -132,8 +132,8 @@ pub fn write(message: Message, payload: &[u8], out: &mut [u8]) -> Written
     ensures { λ r. ⌜ WroteMessage message (now (payload .entry)) (now (out .entry)) r (now (out .exit)) ⌝ }
 {
     match message {
-        Message::Heartbeat(x) => status::write_heartbeat(x, out),
-        Message::Initialization(x) => status::write_initialization(x, out),
+        Message::Heartbeat(x) => heartbeat::write_heartbeat(x, out),
+        Message::Initialization(x) => initialization::write_initialization(x, out),
         Message::Uplink(x) => passing::write_uplink(x, payload, out),
         Message::Height(x) => altitudes::write_height(x, out),
         Message::Ownship(x) => report::write_ownship(x, out),

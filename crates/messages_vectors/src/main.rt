@@ -4,27 +4,27 @@
 // rust/reference.
 ghost use Prim.Native.Nat.{_+_, _≤_, _<_};
 ghost use lib.ListN.{length};
-use fields::Written;
-use kinds::Altitude;
-use kinds::BasicPassThrough;
-use kinds::Bytes8;
-use kinds::Climb;
-use kinds::GeometricAltitude;
-use kinds::Heartbeat;
-use kinds::Height;
-use kinds::Initialization;
-use kinds::LongPassThrough;
-use kinds::Merit;
-use kinds::Message;
-use kinds::Position;
-use kinds::Reading;
-use kinds::Reception;
-use kinds::Report;
-use kinds::Speed;
-use kinds::TrackKind;
+use codec::Written;
 use libc::STDERR_FILENO;
 use libc::STDIN_FILENO;
 use libc::STDOUT_FILENO;
+use message_types::Altitude;
+use message_types::BasicPassThrough;
+use message_types::Bytes8;
+use message_types::Climb;
+use message_types::GeometricAltitude;
+use message_types::Heartbeat;
+use message_types::Height;
+use message_types::Initialization;
+use message_types::LongPassThrough;
+use message_types::Merit;
+use message_types::Message;
+use message_types::Position;
+use message_types::Reading;
+use message_types::Reception;
+use message_types::Report;
+use message_types::Speed;
+use message_types::TrackKind;
 
 fn print(text: &[u8]) {
     io::write_all(STDOUT_FILENO, text);

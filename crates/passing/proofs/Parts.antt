@@ -9,9 +9,9 @@ use lib.ListN.{length, take, drop, length-append, length-drop}
 use lib.Seq.{take-append-seam, drop-append-seam, take-length, drop-length, drop-drop}
 use borrow.Author.Tests.{le-leb}
 use Rattle.numbers.specs.Lent.{written}
-use Rattle.fields.specs.declared.Written.{Written}
-use Rattle.fields.specs.declared.Written.the-variants.{Bytes}
-use Rattle.fields.specs.Writing.{writing, output, Wrote}
+use Rattle.codec.specs.declared.Written.{Written}
+use Rattle.codec.specs.declared.Written.the-variants.{Bytes}
+use Rattle.codec.specs.Writing.{writing, output, Wrote}
 
 -- what a put with room for all leaves
 filled : {bytes out left : List ℕ} {r : Written} → length bytes ≤ length out → Wrote true bytes out r left → left ≡ written bytes out

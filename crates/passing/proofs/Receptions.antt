@@ -10,8 +10,8 @@ use borrow.Author.Tests.{leb-true, ne-eqb}
 use Rattle.numbers.specs.Bytes.{AreBytes}
 use Rattle.numbers.proofs.Bytes.{byte-at, spread, upTo}
 use Rattle.numbers.proofs.Every.{chosen}
-use Rattle.kinds.specs.declared.Reception.{Reception}
-use Rattle.kinds.specs.declared.Reception.the-variants.{Steps, None}
+use Rattle.message_types.specs.declared.Reception.{Reception}
+use Rattle.message_types.specs.declared.Reception.the-variants.{Steps, None}
 use Rattle.passing.specs.Reception.{receptionOf, receptionIn, lastStep, goodReception, receptionNumber, received}
 
 -- a good time is read back

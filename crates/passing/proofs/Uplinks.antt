@@ -10,15 +10,15 @@ use lib.ListN.{length}
 use lib.Seq.{take-all}
 use borrow.Author.Tests.{eqb-true, eqb-false, eq-eqb, ne-eqb}
 use Rattle.numbers.specs.Lent.{written}
-use Rattle.fields.specs.declared.Written.{Written}
-use Rattle.fields.specs.declared.Written.the-variants.{Refused as RefusedWriting}
-use Rattle.fields.specs.Reading.{misfit, reading}
-use Rattle.fields.proofs.Outcomes.{fits}
-use Rattle.kinds.specs.declared.Reception.the-variants.{Steps}
+use Rattle.codec.specs.declared.Written.{Written}
+use Rattle.codec.specs.declared.Written.the-variants.{Refused as RefusedWriting}
+use Rattle.codec.specs.Reading.{misfit, reading}
+use Rattle.codec.proofs.Outcomes.{fits}
+use Rattle.message_types.specs.declared.Reception.the-variants.{Steps}
 use Rattle.passing.specs.Reception.{receptionIn}
-use Rattle.fields.specs.Writing.{Wrote}
-use Rattle.kinds.specs.declared.Uplink.{Uplink}
-use Rattle.kinds.specs.declared.UplinkRead.{UplinkRead}
+use Rattle.codec.specs.Writing.{Wrote}
+use Rattle.message_types.specs.declared.Uplink.{Uplink}
+use Rattle.message_types.specs.declared.UplinkRead.{UplinkRead}
 use Rattle.passing.specs.Uplink.{uplinkIn, goodUplink, uplinkBytes, uplinkAnswer, uplinkRead, payloadOf, writingUplink, WroteUplink}
 use Rattle.passing.specs.Claims.{UplinkWrittenRead, UplinkReadWritten}
 use Rattle.passing.proofs.Receptions.{kept, whole-drop}

@@ -6,9 +6,9 @@ use Prim.Native.Nat.{ℕ}
 use mathlib.Core.List.{List}
 use lib.ListN.{length, drop, getD}
 use Rattle.numbers.specs.Bytes.{AreBytes}
-use Rattle.kinds.specs.declared.BasicPassThrough.{BasicPassThrough}
-use Rattle.kinds.specs.declared.LongPassThrough.{LongPassThrough}
-use Rattle.kinds.specs.declared.Uplink.{Uplink}
+use Rattle.message_types.specs.declared.BasicPassThrough.{BasicPassThrough}
+use Rattle.message_types.specs.declared.LongPassThrough.{LongPassThrough}
+use Rattle.message_types.specs.declared.Uplink.{Uplink}
 use Rattle.passing.specs.PassThrough.{basicPassThroughIn, goodBasicPassThrough, basicPassThroughBytes}
 use Rattle.passing.specs.PassThrough.{longPassThroughIn, goodLongPassThrough, longPassThroughBytes}
 use Rattle.passing.specs.Uplink.{uplinkIn, goodUplink, uplinkBytes, payloadOf}

@@ -4,17 +4,17 @@ use Prim.Native.Nat.{ℕ, _+_}
 use mathlib.Core.Bool.{Bool}
 use mathlib.Core.List.{List, [], _∷_, _++_}
 use lib.ListN.{getD}
-use Rattle.fields.specs.Reading.{reading}
-use Rattle.kinds.specs.Bytes.{eightAt, noBytes}
-use Rattle.kinds.specs.declared.Bytes8.{Bytes8}
-use Rattle.kinds.specs.declared.BasicPassThrough.{BasicPassThrough}
-use Rattle.kinds.specs.declared.BasicRead.{BasicRead}
-use Rattle.kinds.specs.declared.LongRead.{LongRead}
-use Rattle.kinds.specs.declared.Reception.the-variants.{Steps}
-use Rattle.kinds.specs.declared.LongPassThrough.{LongPassThrough}
-use Rattle.kinds.specs.declared.Message.the-variants as kind
-use Rattle.kinds.specs.declared.Reading.{Reading}
-use Rattle.kinds.specs.declared.Reading.the-variants.{Message, Refused}
+use Rattle.codec.specs.Reading.{reading}
+use Rattle.message_types.specs.Bytes.{eightAt, noBytes}
+use Rattle.message_types.specs.declared.Bytes8.{Bytes8}
+use Rattle.message_types.specs.declared.BasicPassThrough.{BasicPassThrough}
+use Rattle.message_types.specs.declared.BasicRead.{BasicRead}
+use Rattle.message_types.specs.declared.LongRead.{LongRead}
+use Rattle.message_types.specs.declared.Reception.the-variants.{Steps}
+use Rattle.message_types.specs.declared.LongPassThrough.{LongPassThrough}
+use Rattle.message_types.specs.declared.Message.the-variants as kind
+use Rattle.message_types.specs.declared.Reading.{Reading}
+use Rattle.message_types.specs.declared.Reading.the-variants.{Message, Refused}
 use Rattle.passing.specs.Reception.{receptionIn, goodReception, received}
 
 abbrev pub eight : Bytes8 → List ℕ

@@ -5,8 +5,8 @@ use mathlib.Core.Bool.{Bool, true, cond}
 use mathlib.Core.List.{List, _∷_}
 use lib.Dec.{eqb, leb}
 use lib.ListN.{getD}
-use Rattle.kinds.specs.declared.Reception.{Reception}
-use Rattle.kinds.specs.declared.Reception.the-variants.{Steps, None}
+use Rattle.message_types.specs.declared.Reception.{Reception}
+use Rattle.message_types.specs.declared.Reception.the-variants.{Steps, None}
 
 -- three bytes, low first; all ones are none
 unfoldable pub receptionOf : ℕ → ℕ → ℕ → Reception

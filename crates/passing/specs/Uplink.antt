@@ -7,17 +7,17 @@ use mathlib.Core.List.{List}
 use lib.Dec.{eqb}
 use lib.ListN.{length}
 use Rattle.numbers.specs.Lent.{written, stretch}
-use Rattle.fields.specs.Reading.{reading}
-use Rattle.fields.specs.declared.Written.{Written}
-use Rattle.fields.specs.declared.Written.the-variants.{Refused as RefusedWriting}
-use Rattle.fields.specs.Writing.{writing, output}
-use Rattle.kinds.specs.declared.Reception.{Reception}
-use Rattle.kinds.specs.declared.Reception.the-variants.{Steps}
-use Rattle.kinds.specs.declared.Uplink.{Uplink}
-use Rattle.kinds.specs.declared.UplinkRead.{UplinkRead}
-use Rattle.kinds.specs.declared.Message.the-variants as kind
-use Rattle.kinds.specs.declared.Reading.{Reading}
-use Rattle.kinds.specs.declared.Reading.the-variants.{Message, Refused}
+use Rattle.codec.specs.Reading.{reading}
+use Rattle.codec.specs.declared.Written.{Written}
+use Rattle.codec.specs.declared.Written.the-variants.{Refused as RefusedWriting}
+use Rattle.codec.specs.Writing.{writing, output}
+use Rattle.message_types.specs.declared.Reception.{Reception}
+use Rattle.message_types.specs.declared.Reception.the-variants.{Steps}
+use Rattle.message_types.specs.declared.Uplink.{Uplink}
+use Rattle.message_types.specs.declared.UplinkRead.{UplinkRead}
+use Rattle.message_types.specs.declared.Message.the-variants as kind
+use Rattle.message_types.specs.declared.Reading.{Reading}
+use Rattle.message_types.specs.declared.Reading.the-variants.{Message, Refused}
 use Rattle.passing.specs.Reception.{receptionIn, goodReception, received}
 
 abbrev pub uplinkIn : List ℕ → Uplink

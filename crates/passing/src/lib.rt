@@ -4,20 +4,20 @@ ghost use mathlib.Core.List.{[], _∷_, _++_};
 ghost use Prim.Native.Nat.{_+_, _≤_};
 ghost use lib.ListN.{length};
 ghost use Rattle.numbers.specs.Lent.{Part};
-ghost use Rattle.fields.specs.Writing.{Wrote};
+ghost use Rattle.codec.specs.Writing.{Wrote};
 ghost use Rattle.passing.specs.Reception.{receptionOf, receptionIn, goodReception, receptionNumber, received};
-ghost use Rattle.kinds.specs.Bytes.{eightAt};
+ghost use Rattle.message_types.specs.Bytes.{eightAt};
 ghost use Rattle.passing.specs.PassThrough.{eight, basicPassThroughIn, goodBasicPassThrough, basicPassThroughBytes, basicRefused, basicRead};
 ghost use Rattle.passing.specs.PassThrough.{longPassThroughIn, goodLongPassThrough, longPassThroughBytes, longRefused, longRead};
 ghost use Rattle.passing.specs.Uplink.{uplinkAnswer, uplinkRead, payloadStart, payloadSize, WroteUplink};
-use kinds::BasicPassThrough;
-use kinds::BasicRead;
-use kinds::Bytes8;
-use kinds::LongPassThrough;
-use kinds::LongRead;
-use kinds::Reception;
-use kinds::Uplink;
-use kinds::UplinkRead;
+use message_types::BasicPassThrough;
+use message_types::BasicRead;
+use message_types::Bytes8;
+use message_types::LongPassThrough;
+use message_types::LongRead;
+use message_types::Reception;
+use message_types::Uplink;
+use message_types::UplinkRead;
 
 // 001 §3.3.1: the last step of a second, and the mark of none.
 const LAST_STEP: u32 = 12499999;
@@ -27,7 +27,7 @@ const NO_STEP: u32 = 0xFFFFFF;
 pub fn read_basic_pass_through(message: &[u8]) -> BasicRead
     ensures { λ r. ⌜ r ≡ basicRead (now (message .entry)) ⌝ }
 {
-    let misfit = fields::misfit(message, BasicPassThrough::ID, BasicPassThrough::LENGTH);
+    let misfit = codec::misfit(message, BasicPassThrough::ID, BasicPassThrough::LENGTH);
     if misfit != 0 {
         return basic_refused(misfit);
     }
@@ -59,7 +59,7 @@ fn basic_refused(number: u8) -> BasicRead
 pub fn read_long_pass_through(message: &[u8]) -> LongRead
     ensures { λ r. ⌜ r ≡ longRead (now (message .entry)) ⌝ }
 {
-    let misfit = fields::misfit(message, LongPassThrough::ID, LongPassThrough::LENGTH);
+    let misfit = codec::misfit(message, LongPassThrough::ID, LongPassThrough::LENGTH);
     if misfit != 0 {
         return long_refused(misfit);
     }
@@ -93,7 +93,7 @@ fn long_refused(number: u8) -> LongRead
 pub fn read_uplink(message: &[u8]) -> UplinkRead
     ensures { λ r. ⌜ r ≡ uplinkRead (now (message .entry)) ⌝ }
 {
-    let misfit = fields::misfit(message, Uplink::ID, Uplink::LENGTH);
+    let misfit = codec::misfit(message, Uplink::ID, Uplink::LENGTH);
     if misfit != 0 {
         return uplink_answer(misfit, Reception::Steps(0));
     }
@@ -125,7 +125,7 @@ pub fn payload<'a>(message: &'a [u8]) -> &'a [u8]
     &message[4..]
 }
 
-pub fn write_basic_pass_through(basic: BasicPassThrough, out: &mut [u8]) -> fields::Written
+pub fn write_basic_pass_through(basic: BasicPassThrough, out: &mut [u8]) -> codec::Written
     ensures { λ r. ⌜ Wrote (goodBasicPassThrough basic) (basicPassThroughBytes basic) (now (out .entry)) r (now (out .exit)) ⌝ }
 {
     let reception = basic.reception;
@@ -136,7 +136,7 @@ pub fn write_basic_pass_through(basic: BasicPassThrough, out: &mut [u8]) -> fiel
     write_two(reception, &first, &last, out)
 }
 
-pub fn write_long_pass_through(long: LongPassThrough, out: &mut [u8]) -> fields::Written
+pub fn write_long_pass_through(long: LongPassThrough, out: &mut [u8]) -> codec::Written
     ensures { λ r. ⌜ Wrote (goodLongPassThrough long) (longPassThroughBytes long) (now (out .entry)) r (now (out .exit)) ⌝ }
 {
     let reception = long.reception;
@@ -149,11 +149,11 @@ pub fn write_long_pass_through(long: LongPassThrough, out: &mut [u8]) -> fields:
     write_two(reception, &first, &last, out)
 }
 
-pub fn write_uplink(uplink: Uplink, payload: &[u8], out: &mut [u8]) -> fields::Written
+pub fn write_uplink(uplink: Uplink, payload: &[u8], out: &mut [u8]) -> codec::Written
     ensures { λ r. ⌜ WroteUplink uplink (now (payload .entry)) (now (out .entry)) r (now (out .exit)) ⌝ }
 {
     if payload.len() != 432 {
-        return fields::Written::Refused(7);
+        return codec::Written::Refused(7);
     }
     let reception = uplink.reception;
     let head = head_of(Uplink::ID, reception);
@@ -316,18 +316,18 @@ fn number_of(reception: Reception) -> u32
 }
 
 // One after the other to the start of the output, where the time is good and there is room for both.
-fn write_two(reception: Reception, first: &[u8], last: &[u8], out: &mut [u8]) -> fields::Written
+fn write_two(reception: Reception, first: &[u8], last: &[u8], out: &mut [u8]) -> codec::Written
     ensures { λ r. ⌜ Wrote (goodReception reception) (now (first .entry) ++ now (last .entry)) (now (out .entry)) r (now (out .exit)) ⌝ }
 {
     let middle = first.len();
     let end = middle + last.len();
     if !is_good_reception(reception) {
-        return fields::Written::Refused(8);
+        return codec::Written::Refused(8);
     }
     if out.len() < end {
-        return fields::Written::Refused(9);
+        return codec::Written::Refused(9);
     }
-    fields::put(first, out);
-    fields::put(last, &mut out[middle..]);
-    fields::Written::Bytes(end)
+    codec::put(first, out);
+    codec::put(last, &mut out[middle..]);
+    codec::Written::Bytes(end)
 }

@@ -7,8 +7,8 @@ use native.Mathlib.Omega.{arith}
 use lib.Dec.{eqb}
 use borrow.Author.Tests.{ltb-true}
 use Rattle.numbers.proofs.Every.{both}
-use Rattle.flat_report.specs.Flat.{trackFrom}
-use Rattle.flat_report.proofs.Laws.{tracks}
+use Rattle.c_report.specs.Flat.{trackFrom}
+use Rattle.c_report.proofs.Laws.{tracks}
 use Rattle.report.specs.Marks.{positionOf, altitudeOf, speedOf, climbOf}
 use Rattle.report.specs.Bytes.{codesIn, codesOf, reportIn, packed, reportBytes}
 use Rattle.report.specs.Reading.{goodReport}

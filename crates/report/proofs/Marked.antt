@@ -11,19 +11,19 @@ use borrow.Author.Tests.{ne-eqb, ltb-true, eqb-true, leb-true, le-leb, lt-leb}
 use Rattle.numbers.proofs.Every.{both, chosen, every, at}
 use Rattle.numbers.proofs.Signed.{field-signed, signed-field, field-fits}
 use Rattle.numbers.specs.Signed.{signedIn, fieldOf}
-use Rattle.flat_report.specs.Flat.{trackNumber, trackFrom}
+use Rattle.c_report.specs.Flat.{trackNumber, trackFrom}
 use Rattle.report.specs.Marks.{noneMark, positionOf, isNone, placeOf, altitudeOf, stepsOr, bit, speedOf, knotsOr, climbOf, climbOr}
 use Rattle.report.specs.Reading.{between, isZero, goodPosition}
-use Rattle.kinds.specs.declared.Position.{Position}
-use Rattle.kinds.specs.declared.Position.the-variants.{At, None as no-position}
-use Rattle.kinds.specs.declared.Altitude.{Altitude}
-use Rattle.kinds.specs.declared.Altitude.the-variants.{Known, None as no-altitude}
-use Rattle.kinds.specs.declared.TrackKind.{TrackKind}
-use Rattle.kinds.specs.declared.TrackKind.the-variants.{NotValid, TrueTrack, MagneticHeading, TrueHeading}
-use Rattle.kinds.specs.declared.Speed.{Speed}
-use Rattle.kinds.specs.declared.Speed.the-variants.{Knots, Over, None as no-speed}
-use Rattle.kinds.specs.declared.Climb.{Climb}
-use Rattle.kinds.specs.declared.Climb.the-variants.{Steps, Above, Below, None as no-climb}
+use Rattle.message_types.specs.declared.Position.{Position}
+use Rattle.message_types.specs.declared.Position.the-variants.{At, None as no-position}
+use Rattle.message_types.specs.declared.Altitude.{Altitude}
+use Rattle.message_types.specs.declared.Altitude.the-variants.{Known, None as no-altitude}
+use Rattle.message_types.specs.declared.TrackKind.{TrackKind}
+use Rattle.message_types.specs.declared.TrackKind.the-variants.{NotValid, TrueTrack, MagneticHeading, TrueHeading}
+use Rattle.message_types.specs.declared.Speed.{Speed}
+use Rattle.message_types.specs.declared.Speed.the-variants.{Knots, Over, None as no-speed}
+use Rattle.message_types.specs.declared.Climb.{Climb}
+use Rattle.message_types.specs.declared.Climb.the-variants.{Steps, Above, Below, None as no-climb}
 
 -- a number from -a-1 to b
 sized : (a b half : ℕ) (z : ℤ) → between (negsuc a) (pos b) z ≡ true → a < half → b < half → mag z < half

@@ -12,7 +12,7 @@ use Rattle.numbers.proofs.Every.{every, at}
 use Rattle.numbers.proofs.Bytes.{byte-at, spread}
 use Rattle.report.specs.Bytes.{three, threeAt, twelveHigh, highAt, twelveLow, codesIn, reportIn, packed}
 use Rattle.report.specs.declared.Codes.{Codes}
-use Rattle.kinds.specs.declared.Report.{Report}
+use Rattle.message_types.specs.declared.Report.{Report}
 
 -- each number fits its bits
 pub record Fit (c : Codes) : Type 0 where

@@ -7,13 +7,13 @@ use lib.Dec.{eqb}
 use lib.IntN.{pos, negsuc}
 use lib.ListN.{getD}
 use Rattle.numbers.specs.Signed.{fieldOf}
-use Rattle.flat_report.specs.Flat.{trackNumber, trackFrom}
+use Rattle.c_report.specs.Flat.{trackNumber, trackFrom}
 use Rattle.report.specs.Marks.{positionOf, placeOf, altitudeOf, stepsOr, bit, speedOf, knotsOr, climbOf, climbOr}
-use Rattle.kinds.specs.Bytes.{eightAt}
+use Rattle.message_types.specs.Bytes.{eightAt}
 use Rattle.report.specs.declared.Codes.{Codes}
-use Rattle.kinds.specs.declared.Ownship.{Ownship}
-use Rattle.kinds.specs.declared.Report.{Report}
-use Rattle.kinds.specs.declared.Traffic.{Traffic}
+use Rattle.message_types.specs.declared.Ownship.{Ownship}
+use Rattle.message_types.specs.declared.Report.{Report}
+use Rattle.message_types.specs.declared.Traffic.{Traffic}
 
 abbrev pub three : ℕ → ℕ → ℕ → ℕ
 three a b c = a * 65536 + b * 256 + c

@@ -8,7 +8,7 @@ use lib.ListN.{length, getD}
 use Rattle.numbers.specs.Bytes.{AreBytes}
 use Rattle.report.specs.Bytes.{reportIn, reportBytes}
 use Rattle.report.specs.Reading.{goodReport}
-use Rattle.kinds.specs.declared.Report.{Report}
+use Rattle.message_types.specs.declared.Report.{Report}
 
 -- a good report's bytes hold it, with any id
 abbrev pub ReportWrittenRead : Type 0

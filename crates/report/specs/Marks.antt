@@ -5,15 +5,15 @@ use mathlib.Core.Bool.{Bool, true, false, cond, _&&_}
 use lib.Dec.{eqb}
 use lib.IntN.{ℤ, pos}
 use Rattle.numbers.specs.Signed.{signedIn}
-use Rattle.kinds.specs.declared.Position.{Position}
-use Rattle.kinds.specs.declared.Position.the-variants.{At, None as no-position}
+use Rattle.message_types.specs.declared.Position.{Position}
+use Rattle.message_types.specs.declared.Position.the-variants.{At, None as no-position}
 use Rattle.report.specs.declared.Place.{Place}
-use Rattle.kinds.specs.declared.Altitude.{Altitude}
-use Rattle.kinds.specs.declared.Altitude.the-variants.{Known, None as no-altitude}
-use Rattle.kinds.specs.declared.Speed.{Speed}
-use Rattle.kinds.specs.declared.Speed.the-variants.{Knots, Over, None as no-speed}
-use Rattle.kinds.specs.declared.Climb.{Climb}
-use Rattle.kinds.specs.declared.Climb.the-variants.{Steps, Above, Below, None as no-climb}
+use Rattle.message_types.specs.declared.Altitude.{Altitude}
+use Rattle.message_types.specs.declared.Altitude.the-variants.{Known, None as no-altitude}
+use Rattle.message_types.specs.declared.Speed.{Speed}
+use Rattle.message_types.specs.declared.Speed.the-variants.{Knots, Over, None as no-speed}
+use Rattle.message_types.specs.declared.Climb.{Climb}
+use Rattle.message_types.specs.declared.Climb.the-variants.{Steps, Above, Below, None as no-climb}
 
 -- none exactly if latitude, longitude and integrity are all 0
 abbrev pub noneMark : ℕ → ℕ → ℕ → Bool

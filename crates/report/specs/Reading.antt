@@ -6,17 +6,17 @@ use mathlib.Core.List.{List}
 use lib.Dec.{eqb, ltb}
 use lib.IntN.{ℤ, pos, negsuc}
 use lib.Signed.{leZ}
-use Rattle.fields.specs.Reading.{reading}
+use Rattle.codec.specs.Reading.{reading}
 use Rattle.report.specs.Marks.{isNone, placeOf, stepsOr, knotsOr, climbOr}
 use Rattle.report.specs.Bytes.{reportIn}
-use Rattle.kinds.specs.Bytes.{noBytes}
-use Rattle.kinds.specs.declared.Position.{Position}
-use Rattle.kinds.specs.declared.Report.{Report}
-use Rattle.flat_report.specs.declared.FlatReportRead.{FlatReportRead}
-use Rattle.flat_report.specs.Flat.{flatReport}
-use Rattle.kinds.specs.declared.Message.the-variants.{Ownship, Traffic}
-use Rattle.kinds.specs.declared.Reading.{Reading}
-use Rattle.kinds.specs.declared.Reading.the-variants.{Message as accepted, Refused}
+use Rattle.message_types.specs.Bytes.{noBytes}
+use Rattle.message_types.specs.declared.Position.{Position}
+use Rattle.message_types.specs.declared.Report.{Report}
+use Rattle.c_report.specs.declared.FlatReportRead.{FlatReportRead}
+use Rattle.c_report.specs.Flat.{flatReport}
+use Rattle.message_types.specs.declared.Message.the-variants.{Ownship, Traffic}
+use Rattle.message_types.specs.declared.Reading.{Reading}
+use Rattle.message_types.specs.declared.Reading.the-variants.{Message as accepted, Refused}
 
 abbrev pub between : ℤ → ℤ → ℤ → Bool
 between low high z = leZ low z && leZ z high

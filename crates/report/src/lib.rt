@@ -2,29 +2,29 @@
 ghost use mathlib.Core.Path.{_≡_};
 ghost use Prim.Native.Nat.{_+_, _-_, _<_, _≤_};
 ghost use lib.ListN.{length};
-ghost use Rattle.fields.specs.Writing.{Wrote};
+ghost use Rattle.codec.specs.Writing.{Wrote};
 ghost use Rattle.numbers.specs.Signed.{signedIn, fieldOf};
 ghost use Rattle.report.specs.Marks.{stepsOr, knotsOr, climbOr, placeOf, isNone, noneMark, bit, altitudeOf, speedOf, climbOf, positionOf};
-ghost use Rattle.kinds.specs.Bytes.{eightAt};
+ghost use Rattle.message_types.specs.Bytes.{eightAt};
 ghost use Rattle.report.specs.Bytes.{three, threeAt, twelveHigh, highAt, twelveLow, lowAt, codesIn, codesOf, reportIn, packed, reportBytes, ownshipBytes, trafficBytes};
 ghost use Rattle.report.specs.Reading.{between, goodPosition, withinBits, goodReport, reportAccepted, reportRefused, reportHeld, ownshipRead, trafficRead};
-use fields::Written;
-use flat_report::FlatReport;
-use flat_report::FlatReportRead;
-use kinds::Altitude;
-use kinds::Bytes8;
-use kinds::Climb;
-use kinds::Ownship;
-use kinds::Position;
-use kinds::Report;
-use kinds::Speed;
-use kinds::Traffic;
+use c_report::FlatReport;
+use c_report::FlatReportRead;
+use codec::Written;
+use message_types::Altitude;
+use message_types::Bytes8;
+use message_types::Climb;
+use message_types::Ownship;
+use message_types::Position;
+use message_types::Report;
+use message_types::Speed;
+use message_types::Traffic;
 use units::PressureSteps;
 
 pub fn read_ownship(message: &[u8]) -> FlatReportRead
     ensures { λ r. ⌜ r ≡ ownshipRead (now (message .entry)) ⌝ }
 {
-    let misfit = fields::misfit(message, Ownship::ID, Ownship::LENGTH);
+    let misfit = codec::misfit(message, Ownship::ID, Ownship::LENGTH);
     if misfit != 0 {
         return report_refused(misfit);
     }
@@ -34,7 +34,7 @@ pub fn read_ownship(message: &[u8]) -> FlatReportRead
 pub fn read_traffic(message: &[u8]) -> FlatReportRead
     ensures { λ r. ⌜ r ≡ trafficRead (now (message .entry)) ⌝ }
 {
-    let misfit = fields::misfit(message, Traffic::ID, Traffic::LENGTH);
+    let misfit = codec::misfit(message, Traffic::ID, Traffic::LENGTH);
     if misfit != 0 {
         return report_refused(misfit);
     }
@@ -57,7 +57,7 @@ fn report_held(message: &[u8]) -> FlatReportRead
 fn report_accepted(report: Report) -> FlatReportRead
     ensures { λ r. ⌜ r ≡ reportAccepted report ⌝ }
 {
-    let report = flat_report::flat_report(report);
+    let report = c_report::flat_report(report);
     FlatReportRead { number: 0, report }
 }
 
@@ -112,7 +112,7 @@ fn write_report(id: u8, report: Report, out: &mut [u8]) -> Written
     if is_good_report(report) {
         let codes = codes_of(report);
         let bytes = packed_report(id, report, codes);
-        fields::put(&bytes, out)
+        codec::put(&bytes, out)
     } else {
         Written::Refused(8)
     }
@@ -203,7 +203,7 @@ fn codes_of(report: Report) -> Codes
         latitude: field_of(at.latitude, 0x800000),
         longitude: field_of(at.longitude, 0x800000),
         altitude: steps_or(altitude, 0xFFF),
-        kind: flat_report::track_number(kind),
+        kind: c_report::track_number(kind),
         extrapolated: bit_of(report.extrapolated),
         airborne: bit_of(report.airborne),
         speed: knots_or(speed, 0xFFE, 0xFFF),
@@ -225,7 +225,7 @@ fn report_in(message: &[u8]) -> Report
         address: three_at(message, 2),
         position: position_of(codes.latitude, codes.longitude, quality / 16),
         altitude: altitude_of(codes.altitude),
-        track_kind: flat_report::track_from(codes.kind),
+        track_kind: c_report::track_from(codes.kind),
         extrapolated: codes.extrapolated == 1,
         airborne: codes.airborne == 1,
         integrity: quality / 16,

@@ -9,7 +9,7 @@ use lib.Dec.{eqb}
 use lib.ListN.{length, take, drop}
 use borrow.Author.Tests.{eq-eqb, ne-eqb}
 use Rattle.numbers.specs.Lent.{stretch, behind, Part}
-use Rattle.kinds.specs.declared.UplinkRead.{UplinkRead}
+use Rattle.message_types.specs.declared.UplinkRead.{UplinkRead}
 use Rattle.passing.specs.Uplink.{uplinkRead, payloadStart, payloadSize, payloadOf}
 use Rattle.passing.proofs.Uplinks.{sized}
 use Rattle.uplink.specs.Walk.{refused, listing}

@@ -5,8 +5,8 @@ use lib.IntN.{ℤ}
 use mir.Syntax.{w16}
 use borrow.Author.Tests.{eq-eqb, ne-eqb}
 use Rattle.numbers.proofs.Signed.{back}
-use Rattle.kinds.specs.declared.Height.{Height}
-use Rattle.kinds.specs.declared.Height.the-variants.{Feet}
+use Rattle.message_types.specs.declared.Height.{Height}
+use Rattle.message_types.specs.declared.Height.the-variants.{Feet}
 use Rattle.altitudes.specs.Height.{heightOf}
 use borrow.Author.Needs.{needs}
 use Rattle.altitudes.proofs.height_of.Statement.{statement}

@@ -4,8 +4,8 @@ use mathlib.Core.Path.{sym, _∙_}
 use native.Mathlib.Omega.{arith}
 use borrow.Author.Needs.{needs}
 use borrow.Author.Tests.{eq-eqb, ne-eqb}
-use Rattle.fields.specs.Reading.{reading}
-use Rattle.fields.proofs.Outcomes.{fits}
+use Rattle.codec.specs.Reading.{reading}
+use Rattle.codec.proofs.Outcomes.{fits}
 use Rattle.altitudes.proofs.read_geometric.Statement.{statement}
 use Rattle.altitudes.proofs.read_geometric.Tie as tie
 

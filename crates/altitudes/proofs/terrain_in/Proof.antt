@@ -1,8 +1,8 @@
 -- `altitudes::terrain_in` meets its contract.
 -- Assumes nothing.
 use mathlib.Core.Path.{ap, _∙_}
-use Rattle.kinds.specs.declared.Height.{Height}
-use Rattle.kinds.specs.declared.HeightAboveTerrain.{HeightAboveTerrain}
+use Rattle.message_types.specs.declared.Height.{Height}
+use Rattle.message_types.specs.declared.HeightAboveTerrain.{HeightAboveTerrain}
 use Rattle.altitudes.specs.Height.{heightOf, terrainIn}
 use borrow.Author.Needs.{needs}
 use Rattle.altitudes.proofs.terrain_in.Statement.{statement}

@@ -2,7 +2,7 @@
 -- Assumes nothing.
 use mathlib.Core.Path.{sym, _∙_}
 use Rattle.altitudes.proofs.Back.{merit-lt}
-use Rattle.fields.proofs.Outcomes.{wrote, refused}
+use Rattle.codec.proofs.Outcomes.{wrote, refused}
 use borrow.Author.Needs.{needs}
 use Rattle.altitudes.proofs.write_geometric.Statement.{statement}
 use Rattle.altitudes.proofs.write_geometric.Tie as tie

@@ -1,7 +1,7 @@
 -- `altitudes::write_height` meets its contract.
 -- Assumes nothing.
 use mathlib.Core.Path.{sym, _∙_}
-use Rattle.fields.proofs.Outcomes.{wrote, refused}
+use Rattle.codec.proofs.Outcomes.{wrote, refused}
 use borrow.Author.Needs.{needs}
 use Rattle.altitudes.proofs.write_height.Statement.{statement}
 use Rattle.altitudes.proofs.write_height.Tie as tie

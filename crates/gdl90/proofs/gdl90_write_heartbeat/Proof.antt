@@ -2,7 +2,7 @@
 -- Assumes nothing.
 use mathlib.Core.Path.{refl}
 use Rattle.gdl90.proofs.Answering.{wrote}
-use Rattle.status.specs.Heartbeat.{goodHeartbeat, heartbeatBytes}
+use Rattle.heartbeat.specs.Heartbeat.{goodHeartbeat, heartbeatBytes}
 use borrow.Author.Needs.{needs}
 use Rattle.gdl90.proofs.gdl90_write_heartbeat.Statement.{statement}
 use Rattle.gdl90.proofs.gdl90_write_heartbeat.Tie as tie

@@ -2,7 +2,7 @@
 -- Assumes nothing.
 use mathlib.Core.Path.{refl}
 use Rattle.gdl90.proofs.Answering.{wrote}
-use Rattle.status.specs.Initialization.{goodInitialization, initializationBytes}
+use Rattle.initialization.specs.Initialization.{goodInitialization, initializationBytes}
 use borrow.Author.Needs.{needs}
 use Rattle.gdl90.proofs.gdl90_write_initialization.Statement.{statement}
 use Rattle.gdl90.proofs.gdl90_write_initialization.Tie as tie

@@ -2,8 +2,8 @@
 -- Assumes nothing.
 use borrow.Author.Tests.{le-leb, lt-leb}
 use Rattle.numbers.specs.Lent.{written}
-use Rattle.fields.specs.Writing.{writing}
-use Rattle.kinds.specs.declared.Report.{Report}
+use Rattle.codec.specs.Writing.{writing}
+use Rattle.message_types.specs.declared.Report.{Report}
 use Rattle.report.specs.Bytes.{ownshipBytes}
 use Rattle.report.specs.Reading.{goodReport}
 use Rattle.gdl90.proofs.Answering.{wrote}

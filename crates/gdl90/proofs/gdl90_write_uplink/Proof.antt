@@ -1,7 +1,7 @@
 -- `gdl90::gdl90_write_uplink` meets its contract.
 -- Assumes nothing.
 use lib.ListN.{length}
-use Rattle.kinds.specs.declared.Uplink.{Uplink}
+use Rattle.message_types.specs.declared.Uplink.{Uplink}
 use Rattle.passing.specs.Uplink.{uplinkBytes, writingUplink}
 use Rattle.gdl90.proofs.Answering.{told}
 use borrow.Author.Needs.{needs}

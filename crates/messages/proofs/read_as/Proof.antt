@@ -1,20 +1,20 @@
 -- `messages::read_as` meets its contract, by the kind.
 -- Assumes nothing.
 use mathlib.Core.Path.{refl, ap, _∙_}
-use Rattle.fields.proofs.Outcomes.{made}
-use Rattle.kinds.specs.declared.BasicRead.{BasicRead}
-use Rattle.kinds.specs.declared.GeometricRead.{GeometricRead}
-use Rattle.kinds.specs.declared.HeartbeatRead.{HeartbeatRead}
-use Rattle.kinds.specs.declared.HeightRead.{HeightRead}
-use Rattle.kinds.specs.declared.InitializationRead.{InitializationRead}
-use Rattle.kinds.specs.declared.LongRead.{LongRead}
-use Rattle.kinds.specs.declared.Report.{Report}
-use Rattle.kinds.specs.declared.Reading.the-variants.{Message as Accepted}
-use Rattle.flat_report.specs.declared.FlatReportRead.{FlatReportRead}
-use Rattle.flat_report.specs.Flat.{reportFrom}
-use Rattle.flat_report.proofs.Laws.{report-there-and-back}
-use Rattle.kinds.specs.declared.UplinkRead.{UplinkRead}
-use Rattle.kinds.specs.declared.Message.the-variants as kind
+use Rattle.codec.proofs.Outcomes.{made}
+use Rattle.message_types.specs.declared.BasicRead.{BasicRead}
+use Rattle.message_types.specs.declared.GeometricRead.{GeometricRead}
+use Rattle.message_types.specs.declared.HeartbeatRead.{HeartbeatRead}
+use Rattle.message_types.specs.declared.HeightRead.{HeightRead}
+use Rattle.message_types.specs.declared.InitializationRead.{InitializationRead}
+use Rattle.message_types.specs.declared.LongRead.{LongRead}
+use Rattle.message_types.specs.declared.Report.{Report}
+use Rattle.message_types.specs.declared.Reading.the-variants.{Message as Accepted}
+use Rattle.c_report.specs.declared.FlatReportRead.{FlatReportRead}
+use Rattle.c_report.specs.Flat.{reportFrom}
+use Rattle.c_report.proofs.Laws.{report-there-and-back}
+use Rattle.message_types.specs.declared.UplinkRead.{UplinkRead}
+use Rattle.message_types.specs.declared.Message.the-variants as kind
 use Rattle.messages.specs.Message.{asReading}
 use Rattle.messages.proofs.Dispatch.{of-kind}
 use borrow.Author.Needs.{needs}

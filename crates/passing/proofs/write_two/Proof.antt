@@ -4,7 +4,7 @@ use borrow.Author.Needs.{needs}
 use borrow.Author.Tests.{not-true, not-false}
 use mathlib.Core.Path.{refl, sym, _∙_}
 use lib.ListN.{length-append}
-use Rattle.fields.proofs.Outcomes.{no-room, wrote, refused}
+use Rattle.codec.proofs.Outcomes.{no-room, wrote, refused}
 use Rattle.passing.proofs.Parts.{both}
 use Rattle.passing.proofs.write_two.Statement.{statement}
 use Rattle.passing.proofs.write_two.Tie as tie

@@ -5,7 +5,7 @@ use borrow.Author.Needs.{needs}
 use borrow.Author.Tests.{eq-eqb, ne-eqb}
 use Rattle.units.proofs.Wide.{back32}
 use Rattle.report.specs.Marks.{climbOf}
-use Rattle.kinds.specs.declared.Climb.the-variants.{Steps}
+use Rattle.message_types.specs.declared.Climb.the-variants.{Steps}
 use Rattle.report.proofs.climb_of.Statement.{statement}
 use Rattle.report.proofs.climb_of.Tie as tie
 

@@ -4,7 +4,7 @@ use mathlib.Core.Path.{sym, _∙_}
 use borrow.Author.Needs.{needs}
 use Rattle.units.proofs.Wide.{back32}
 use Rattle.report.specs.Marks.{positionOf}
-use Rattle.kinds.specs.declared.Position.the-variants.{At}
+use Rattle.message_types.specs.declared.Position.the-variants.{At}
 use Rattle.report.proofs.position_of.Statement.{statement}
 use Rattle.report.proofs.position_of.Tie as tie
 

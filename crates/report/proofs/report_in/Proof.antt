@@ -4,7 +4,7 @@ use mathlib.Core.Path.{_∙_}
 use Prim.Native.Nat.{_/_, _%_}
 use lib.Dec.{eqb}
 use lib.ListN.{getD}
-use Rattle.flat_report.specs.Flat.{trackFrom}
+use Rattle.c_report.specs.Flat.{trackFrom}
 use Rattle.report.specs.Marks.{positionOf, altitudeOf, speedOf, climbOf}
 use Rattle.report.specs.Bytes.{reportIn}
 use borrow.Author.Needs.{needs}

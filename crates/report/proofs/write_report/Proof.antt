@@ -1,7 +1,7 @@
 -- `report::write_report` meets its contract, by the test.
 -- Assumes nothing.
 use mathlib.Core.Path.{sym, ap, _∙_}
-use Rattle.fields.proofs.Outcomes.{wrote, refused}
+use Rattle.codec.proofs.Outcomes.{wrote, refused}
 use Rattle.report.specs.Bytes.{packed, reportBytes}
 use borrow.Author.Needs.{needs}
 use Rattle.report.proofs.write_report.Statement.{statement}

@@ -1,0 +1,314 @@
+// The typed messages but for reports as structs of numbers, for callers that know no enums, such as C's, there and back.
+ghost use mathlib.Core.Path.{_≡_};
+ghost use Rattle.c_structs.specs.Flat.{receptionMark, receptionSteps, receptionFrom, flatUplink, uplinkFrom, flatBasic, basicFrom, flatLong, longFrom};
+ghost use Rattle.c_structs.specs.Flat.{heightMark, heightFeet, heightFrom, flatHeight, terrainFrom, meritMark, meritMetres, meritFrom, flatGeometric, geometricFrom};
+use message_types::BasicPassThrough;
+use message_types::Bytes8;
+use message_types::GeometricAltitude;
+use message_types::Height;
+use message_types::HeightAboveTerrain;
+use message_types::LongPassThrough;
+use message_types::Merit;
+use message_types::Reception;
+use message_types::Uplink;
+use units::GeometricSteps;
+use units::TerrainFeet;
+
+#[repr(C)]
+pub struct FlatUplink {
+    pub reception_mark: u8,
+    pub reception: u32,
+}
+
+#[repr(C)]
+pub struct FlatHeight {
+    pub height_mark: u8,
+    pub height: i16,
+}
+
+#[repr(C)]
+pub struct FlatGeometric {
+    pub altitude: i16,
+    pub warning: bool,
+    pub merit_mark: u8,
+    pub merit: u16,
+}
+
+// The payload's 18 bytes are a, b, e, f.
+#[repr(C)]
+pub struct FlatBasic {
+    pub reception_mark: u8,
+    pub reception: u32,
+    pub a: Bytes8,
+    pub b: Bytes8,
+    pub e: u8,
+    pub f: u8,
+}
+
+// The payload's 34 bytes are a, b, c, d, e, f.
+#[repr(C)]
+pub struct FlatLong {
+    pub reception_mark: u8,
+    pub reception: u32,
+    pub a: Bytes8,
+    pub b: Bytes8,
+    pub c: Bytes8,
+    pub d: Bytes8,
+    pub e: u8,
+    pub f: u8,
+}
+
+#[repr(C)]
+pub struct FlatUplinkRead {
+    pub number: u8,
+    pub uplink: FlatUplink,
+}
+
+#[repr(C)]
+pub struct FlatHeightRead {
+    pub number: u8,
+    pub height: FlatHeight,
+}
+
+#[repr(C)]
+pub struct FlatGeometricRead {
+    pub number: u8,
+    pub geometric: FlatGeometric,
+}
+
+#[repr(C)]
+pub struct FlatBasicRead {
+    pub number: u8,
+    pub basic: FlatBasic,
+}
+
+#[repr(C)]
+pub struct FlatLongRead {
+    pub number: u8,
+    pub long: FlatLong,
+}
+
+fn reception_mark(reception: Reception) -> u8
+    ensures { λ r. ⌜ r ≡ receptionMark reception ⌝ }
+{
+    match reception {
+        Reception::Steps(_) => 0,
+        Reception::None => 1,
+    }
+}
+
+fn reception_steps(reception: Reception) -> u32
+    ensures { λ r. ⌜ r ≡ receptionSteps reception ⌝ }
+{
+    match reception {
+        Reception::Steps(n) => n,
+        Reception::None => 0,
+    }
+}
+
+fn reception_from(mark: u8, steps: u32) -> Reception
+    ensures { λ r. ⌜ r ≡ receptionFrom mark steps ⌝ }
+{
+    if mark == 0 {
+        return Reception::Steps(steps);
+    }
+    if mark == 1 {
+        return Reception::None;
+    }
+    Reception::Steps(0xFFFFFF)
+}
+
+fn height_mark(height: Height) -> u8
+    ensures { λ r. ⌜ r ≡ heightMark height ⌝ }
+{
+    match height {
+        Height::Feet(_) => 0,
+        Height::None => 1,
+    }
+}
+
+fn height_feet(height: Height) -> i16
+    ensures { λ r. ⌜ r ≡ heightFeet height ⌝ }
+{
+    match height {
+        Height::Feet(h) => h.feet,
+        Height::None => 0,
+    }
+}
+
+fn height_from(mark: u8, feet: i16) -> Height
+    ensures { λ r. ⌜ r ≡ heightFrom mark feet ⌝ }
+{
+    if mark == 0 {
+        return Height::Feet(TerrainFeet { feet });
+    }
+    if mark == 1 {
+        return Height::None;
+    }
+    Height::Feet(TerrainFeet { feet: -32768 })
+}
+
+fn merit_mark(merit: Merit) -> u8
+    ensures { λ r. ⌜ r ≡ meritMark merit ⌝ }
+{
+    match merit {
+        Merit::Metres(_) => 0,
+        Merit::None => 1,
+        Merit::Over => 2,
+    }
+}
+
+fn merit_metres(merit: Merit) -> u16
+    ensures { λ r. ⌜ r ≡ meritMetres merit ⌝ }
+{
+    match merit {
+        Merit::Metres(n) => n,
+        Merit::None => 0,
+        Merit::Over => 0,
+    }
+}
+
+fn merit_from(mark: u8, metres: u16) -> Merit
+    ensures { λ r. ⌜ r ≡ meritFrom mark metres ⌝ }
+{
+    if mark == 0 {
+        return Merit::Metres(metres);
+    }
+    if mark == 1 {
+        return Merit::None;
+    }
+    if mark == 2 {
+        return Merit::Over;
+    }
+    Merit::Metres(0x7FFF)
+}
+
+pub fn flat_uplink(uplink: Uplink) -> FlatUplink
+    ensures { λ r. ⌜ r ≡ flatUplink uplink ⌝ }
+{
+    let reception = uplink.reception;
+    FlatUplink {
+        reception_mark: reception_mark(reception),
+        reception: reception_steps(reception),
+    }
+}
+
+pub fn uplink_from(flat: FlatUplink) -> Uplink
+    ensures { λ r. ⌜ r ≡ uplinkFrom flat ⌝ }
+{
+    let reception = reception_from(flat.reception_mark, flat.reception);
+    Uplink { reception }
+}
+
+pub fn flat_height(value: HeightAboveTerrain) -> FlatHeight
+    ensures { λ r. ⌜ r ≡ flatHeight value ⌝ }
+{
+    let height = value.height;
+    FlatHeight {
+        height_mark: height_mark(height),
+        height: height_feet(height),
+    }
+}
+
+pub fn terrain_from(flat: FlatHeight) -> HeightAboveTerrain
+    ensures { λ r. ⌜ r ≡ terrainFrom flat ⌝ }
+{
+    let height = height_from(flat.height_mark, flat.height);
+    HeightAboveTerrain { height }
+}
+
+pub fn flat_geometric(value: GeometricAltitude) -> FlatGeometric
+    ensures { λ r. ⌜ r ≡ flatGeometric value ⌝ }
+{
+    let altitude = value.altitude;
+    let merit = value.merit;
+    FlatGeometric {
+        altitude: altitude.steps,
+        warning: value.warning,
+        merit_mark: merit_mark(merit),
+        merit: merit_metres(merit),
+    }
+}
+
+pub fn geometric_from(flat: FlatGeometric) -> GeometricAltitude
+    ensures { λ r. ⌜ r ≡ geometricFrom flat ⌝ }
+{
+    let merit = merit_from(flat.merit_mark, flat.merit);
+    GeometricAltitude {
+        altitude: GeometricSteps {
+            steps: flat.altitude,
+        },
+        warning: flat.warning,
+        merit,
+    }
+}
+
+pub fn flat_basic(basic: BasicPassThrough) -> FlatBasic
+    ensures { λ r. ⌜ r ≡ flatBasic basic ⌝ }
+{
+    let reception = basic.reception;
+    let a = basic.a;
+    let b = basic.b;
+    FlatBasic {
+        reception_mark: reception_mark(reception),
+        reception: reception_steps(reception),
+        a,
+        b,
+        e: basic.e,
+        f: basic.f,
+    }
+}
+
+pub fn basic_from(flat: FlatBasic) -> BasicPassThrough
+    ensures { λ r. ⌜ r ≡ basicFrom flat ⌝ }
+{
+    let reception = reception_from(flat.reception_mark, flat.reception);
+    let a = flat.a;
+    let b = flat.b;
+    BasicPassThrough {
+        reception,
+        a,
+        b,
+        e: flat.e,
+        f: flat.f,
+    }
+}
+
+pub fn flat_long(long: LongPassThrough) -> FlatLong
+    ensures { λ r. ⌜ r ≡ flatLong long ⌝ }
+{
+    let reception = long.reception;
+    let a = long.a;
+    let b = long.b;
+    let c = long.c;
+    let d = long.d;
+    FlatLong {
+        reception_mark: reception_mark(reception),
+        reception: reception_steps(reception),
+        a,
+        b,
+        c,
+        d,
+        e: long.e,
+        f: long.f,
+    }
+}
+
+pub fn long_from(flat: FlatLong) -> LongPassThrough
+    ensures { λ r. ⌜ r ≡ longFrom flat ⌝ }
+{
+    let reception = reception_from(flat.reception_mark, flat.reception);
+    let a = flat.a;
+    let b = flat.b;
+    let c = flat.c;
+    let d = flat.d;
+    LongPassThrough {
+        reception,
+        a,
+        b,
+        c,
+        d,
+        e: flat.e,
+        f: flat.f,
+    }
+}

@@ -1,0 +1,34 @@
+-- What writing a message answers (01), and what the lent output then holds.
+-- Assumes nothing.
+use mathlib.Core.Path.{_≡_}
+use Prim.Native.Nat.{ℕ}
+use mathlib.Core.Bool.{Bool, cond}
+use mathlib.Core.List.{List, []}
+use lib.Dec.{leb}
+use lib.ListN.{length}
+use Rattle.numbers.specs.Lent.{written}
+use Rattle.codec.specs.declared.Written.{Written}
+use Rattle.codec.specs.declared.Written.the-variants.{Bytes, Refused}
+
+-- 8 unless the value is good; then 9 exactly when the output, of `room` bytes, is shorter than the message
+unfoldable pub writing : Bool → List ℕ → ℕ → Written
+writing good bytes room = cond good (cond (leb (length bytes) room) (Bytes (length bytes)) (Refused 9)) (Refused 8)
+
+-- 01's number, and the bytes written, for each case
+abbrev pub number : Written → ℕ
+number (Bytes n) = 0
+number (Refused k) = k
+
+abbrev pub size : Written → ℕ
+size (Bytes n) = n
+size (Refused k) = 0
+
+-- the bytes that each case writes for a message
+abbrev pub output : Written → List ℕ → List ℕ
+output (Bytes n) bytes = bytes
+output (Refused k) bytes = []
+
+-- the bytes of a message, written where the value is good
+pub record Wrote (good : Bool) (bytes out : List ℕ) (answer : Written) (left : List ℕ) : Type 0 where
+  pub answers : answer ≡ writing good bytes (length out)
+  pub leaves : left ≡ written (output answer bytes) out

@@ -1,0 +1,43 @@
+// What the message kinds share: the checks of id and length, and writing bytes to lent memory.
+ghost use mathlib.Core.Bool.{true};
+ghost use mathlib.Core.Path.{_≡_};
+ghost use Rattle.codec.specs.Reading.{misfit};
+ghost use Rattle.codec.specs.Writing.{Wrote};
+
+pub enum Written {
+    // how many bytes were written
+    Bytes(usize),
+    // 01's number: 7, an uplink's payload not 432 bytes; 8, a field outside its range; 9, lent output too short
+    Refused(u8),
+}
+
+// 01's number where the bytes are no message of the kind with this id and length: 6, then 7; else 0.
+pub fn misfit(message: &[u8], id: u8, length: usize) -> u8
+    ensures { λ r. ⌜ r ≡ misfit id length (now (message .entry)) ⌝ }
+{
+    if message.len() == 0 {
+        return 6;
+    }
+    if message[0] != id {
+        return 6;
+    }
+    if message.len() != length {
+        return 7;
+    }
+    0
+}
+
+// The bytes to the start of the output, where there is room for them.
+pub fn put(bytes: &[u8], out: &mut [u8]) -> Written
+    ensures { λ r. ⌜ Wrote true (now (bytes .entry)) (now (out .entry)) r (now (out .exit)) ⌝ }
+{
+    if out.len() < bytes.len() {
+        return Written::Refused(9);
+    }
+    let mut i = 0;
+    while i < bytes.len() {
+        out[i] = bytes[i];
+        i += 1;
+    }
+    Written::Bytes(i)
+}

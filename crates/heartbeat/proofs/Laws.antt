@@ -1,0 +1,61 @@
+-- Laws of the heartbeat.
+-- Assumes nothing.
+use mathlib.Core.Path.{_≡_, sym, ap, _∙_}
+use mathlib.Core.Bool.{true}
+use Prim.Native.Nat.{ℕ, suc, _+_, _*_, _/_, _%_, _<_}
+use mathlib.Core.List.{_∷_}
+use native.Mathlib.Omega.{arith}
+use lib.Dec.{ltb, leb}
+use lib.ListN.{getD}
+use borrow.Author.Tests.{ltb-true, leb-true}
+use Rattle.numbers.proofs.Bytes.{byte-at, spread, upTo}
+use Rattle.numbers.proofs.Every.{both}
+use Rattle.message_types.specs.declared.Heartbeat.{Heartbeat}
+use Rattle.heartbeat.specs.Heartbeat.{lastSecond, timeOf, countOf, heartbeatIn, goodHeartbeat, HeartbeatBits}
+use Rattle.heartbeat.specs.Claims.{HeartbeatWrittenRead, HeartbeatReadWritten}
+
+-- a good heartbeat's fields are within their bits
+pub in-bits : (h : Heartbeat) → goodHeartbeat h ≡ true → HeartbeatBits h
+in-bits h g =
+    let a = both (ltb (h .status2) 128) _ g in
+    let b = both (leb (h .time) lastSecond) _ (a .1) in
+    let d = both (ltb (h .uplinks) 32) _ (b .1) in
+    let e = both (ltb (h .reserved) 2) _ (d .1) in
+    let day = leb-true (h .time) lastSecond (b .0) in
+    record {
+      status2 = ltb-true _ _ (a .0);
+      time = omega arith;
+      uplinks = ltb-true _ _ (d .0);
+      reserved = ltb-true _ _ (e .0);
+      received = ltb-true _ _ (e .1);
+    }
+
+-- three bytes hold the time and the rest of status byte 2
+time-kept : {s t : ℕ} → s < 128 → t < 131072 → (timeOf (t / 65536 * 128 + s) (t % 256) (t / 256 % 256) ≡ t) × ((t / 65536 * 128 + s) % 128 ≡ s)
+time-kept a b = (omega arith, omega arith)
+
+-- two bytes hold the counts and the reserved bit between them
+counts-kept : {u r n : ℕ} → u < 32 → r < 2 → n < 1024 → ((u * 8 + r * 4 + n / 256) / 8 ≡ u) × ((u * 8 + r * 4 + n / 256) / 4 % 2 ≡ r) × (countOf (u * 8 + r * 4 + n / 256) (n % 256) ≡ n)
+counts-kept a b d = (omega arith, omega arith, omega arith)
+
+pub written-read : HeartbeatWrittenRead
+unfolding heartbeatIn
+written-read h g =
+    let b = in-bits h g in
+    let t = time-kept (b .status2) (b .time) in
+    let n = counts-kept (b .uplinks) (b .reserved) (b .received) in
+    simp (t .0, t .1, n .0, n .1, n .2)
+
+time-back : {s l h : ℕ} → s < 256 → l < 256 → h < 256 → (timeOf s l h / 65536 * 128 + s % 128 ≡ s) × (timeOf s l h % 256 ≡ l) × (timeOf s l h / 256 % 256 ≡ h)
+time-back a b d = (omega arith, omega arith, omega arith)
+
+counts-back : {h l : ℕ} → h < 256 → l < 256 → (h / 8 * 8 + h / 4 % 2 * 4 + countOf h l / 256 ≡ h) × (countOf h l % 256 ≡ l)
+counts-back a b = (omega arith, omega arith)
+
+pub read-written : HeartbeatReadWritten
+unfolding heartbeatIn
+read-written m long bytes id =
+    let b : (i : ℕ) → getD m i 0 < 256 = λ i. byte-at m i bytes in
+    let t = time-back (b 2) (b 3) (b 4) in
+    let n = counts-back (b 5) (b 6) in
+    simp (t .0, t .1, t .2, n .0, n .1) (sym (spread 7 m long ∙ ap (λ (x : ℕ). x ∷ upTo 6 (λ i. getD m (suc i) 0)) id))

@@ -1,0 +1,19 @@
+-- What is proved of the heartbeat, besides that the code reads and writes it.
+-- Assumes nothing.
+use mathlib.Core.Path.{_≡_}
+use mathlib.Core.Bool.{true}
+use Prim.Native.Nat.{ℕ}
+use mathlib.Core.List.{List}
+use lib.ListN.{length, getD}
+use Rattle.numbers.specs.Bytes.{AreBytes}
+use Rattle.message_types.specs.declared.Heartbeat.{Heartbeat}
+use Rattle.heartbeat.specs.Heartbeat.{heartbeatIn, goodHeartbeat, heartbeatBytes}
+
+-- a good value's bytes hold that value
+abbrev pub HeartbeatWrittenRead : Type 0
+HeartbeatWrittenRead = (h : Heartbeat) → goodHeartbeat h ≡ true → heartbeatIn (heartbeatBytes h) ≡ h
+
+-- nothing of a message is lost, good or not
+abbrev pub HeartbeatReadWritten : Type 0
+HeartbeatReadWritten =
+    (m : List ℕ) → length m ≡ 7 → AreBytes m → getD m 0 0 ≡ 0 → heartbeatBytes (heartbeatIn m) ≡ m

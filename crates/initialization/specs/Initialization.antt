@@ -1,0 +1,33 @@
+-- The initialization (001 §3.2): id 2, three bytes.
+-- Assumes nothing.
+use Prim.Native.Nat.{ℕ}
+use mathlib.Core.Bool.{Bool, true}
+use mathlib.Core.List.{List, [], _∷_}
+use lib.ListN.{getD}
+use Rattle.codec.specs.Reading.{reading}
+use Rattle.message_types.specs.declared.Initialization.{Initialization}
+use Rattle.message_types.specs.declared.InitializationRead.{InitializationRead}
+use Rattle.message_types.specs.declared.Message.the-variants as kind
+use Rattle.message_types.specs.declared.Reading.{Reading}
+use Rattle.message_types.specs.declared.Reading.the-variants.{Message, Refused}
+
+-- the initialization that three bytes hold
+abbrev pub initializationIn : List ℕ → Initialization
+initializationIn m = record { first = getD m 1 0; second = getD m 2 0 }
+
+-- any two bytes are good
+abbrev pub goodInitialization : Initialization → Bool
+goodInitialization i = true
+
+abbrev pub initializationBytes : Initialization → List ℕ
+initializationBytes i = 2 ∷ i .first ∷ i .second ∷ []
+
+abbrev pub initializationAnswer : ℕ → ℕ → ℕ → InitializationRead
+initializationAnswer k first second = record { number = k; initialization = record { first = first; second = second } }
+
+abbrev pub initializationRead : List ℕ → InitializationRead
+initializationRead =
+    reading 2 3 initializationIn goodInitialization (λ i. record { number = 0; initialization = i }) (λ k. initializationAnswer k 0 0)
+
+abbrev pub readInitialization : List ℕ → Reading
+readInitialization = reading 2 3 initializationIn goodInitialization (λ i. Message (kind.Initialization i)) Refused

@@ -1,0 +1,2 @@
+pub mod Initialization
+pub mod Claims

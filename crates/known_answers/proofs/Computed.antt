@@ -1,0 +1,29 @@
+-- 01's values, each by computing.
+-- Assumes nothing.
+use mathlib.Core.Path.{refl}
+use Rattle.numbers.specs.Bits.{_⊕_, bit}
+use Rattle.numbers.specs.Signed.{signedIn}
+use Rattle.fcs.specs.Fcs.{bits, step, fcs}
+use Rattle.framing.specs.Stuffing.{escape, stuff}
+use Rattle.framing.specs.Frame.{lowFirst, enclosed, frameOf}
+use Rattle.collecting.specs.Step.{collected, unescaped, inside, checked, closed, taken, next, answerTo, shown}
+use Rattle.collecting.specs.Stream.{reply, replyTo, answers}
+use Rattle.codec.specs.Reading.{misfit, reading}
+use Rattle.heartbeat.specs.Heartbeat.{heartbeatIn}
+use Rattle.c_report.specs.Flat.{trackFrom}
+use Rattle.report.specs.Marks.{positionOf, altitudeOf, speedOf, climbOf}
+use Rattle.report.specs.Bytes.{reportIn}
+use Rattle.report.specs.Reading.{goodPosition, goodReport}
+use Rattle.messages.specs.Message.{kindIn, readMessage}
+use Rattle.uplink.specs.Walk.{before, walk, listing}
+use Rattle.uplink.specs.Answers.{counted}
+use Rattle.known_answers.specs.Row.{Holds, done, _and_}
+use Rattle.known_answers.specs.Values.{Starred, Examples}
+
+pub starred-hold : Starred
+unfolding Holds _⊕_ bit signedIn bits step fcs escape stuff lowFirst enclosed frameOf collected unescaped inside checked closed taken next answerTo shown reply replyTo answers misfit reading heartbeatIn trackFrom positionOf altitudeOf speedOf climbOf reportIn goodPosition goodReport kindIn readMessage before walk listing counted
+starred-hold = refl and refl and refl and refl and refl and refl and refl and refl and refl and refl and refl and refl and refl and refl and refl and refl and refl and refl and refl and refl and refl and refl and refl and refl and refl and refl and refl and refl and refl and done
+
+pub examples-hold : Examples
+unfolding Holds _⊕_ bit signedIn bits step fcs escape stuff lowFirst enclosed frameOf misfit reading heartbeatIn trackFrom positionOf altitudeOf speedOf climbOf reportIn goodPosition goodReport kindIn readMessage
+examples-hold = refl and refl and refl and refl and refl and done

@@ -1,2 +1,0 @@
-pub mod Heartbeats
-pub mod Initializations

@@ -1,3 +1,0 @@
-pub mod Heartbeat
-pub mod Initialization
-pub mod Claims
