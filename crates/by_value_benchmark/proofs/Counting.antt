@@ -12,7 +12,7 @@ use Rattle.collecting.specs.declared.Answer.{Answer}
 use Rattle.collecting.specs.declared.Collector.{Collector}
 use Rattle.collecting.specs.Step.{next, answerTo}
 use Rattle.collecting.specs.Stream.{isAnswered}
-use Rattle.by_value_benchmark.specs.Given.{given}
+use Rattle.by_value_benchmark.specs.Answers.{answerCount}
 
 pub at-most-one : (a : Answer) → cond (isAnswered a) 1 0 ≤ 1
 at-most-one a = go (isAnswered a)
@@ -23,10 +23,10 @@ at-most-one a = go (isAnswered a)
 
 module _ (c : Collector) (bs : List ℕ) (i : ℕ) where
   pub one-less : i < length bs
-      → given c (drop i bs) ≡ cond (isAnswered (answerTo c (getD bs i 0))) 1 0 + given (next c (getD bs i 0)) (drop (i + 1) bs)
-  unfolding given
-  one-less h = ap (given c) (drop-cons bs i 0 h ∙ ap (λ (n : ℕ). getD bs i 0 ∷ drop n bs) (sym (add-one i)))
+      → answerCount c (drop i bs) ≡ cond (isAnswered (answerTo c (getD bs i 0))) 1 0 + answerCount (next c (getD bs i 0)) (drop (i + 1) bs)
+  unfolding answerCount
+  one-less h = ap (answerCount c) (drop-cons bs i 0 h ∙ ap (λ (n : ℕ). getD bs i 0 ∷ drop n bs) (sym (add-one i)))
 
-  pub none-left : length bs ≤ i → given c (drop i bs) ≡ 0
-  unfolding given
-  none-left h = ap (given c) (drop-of-length-le bs h)
+  pub none-left : length bs ≤ i → answerCount c (drop i bs) ≡ 0
+  unfolding answerCount
+  none-left h = ap (answerCount c) (drop-of-length-le bs h)

@@ -3,14 +3,14 @@ ghost use mathlib.Core.Path.{_≡_};
 ghost use mathlib.Core.Bool.{cond};
 ghost use Rattle.collecting.specs.Step.{fresh};
 ghost use Rattle.collecting.specs.Stream.{isAnswered};
-ghost use Rattle.by_value_benchmark.specs.Given.{given};
+ghost use Rattle.by_value_benchmark.specs.Answers.{answerCount};
 use collecting::Answer;
 use collecting::Collector;
 
 // How many answers the bytes are given, from the fresh state.
 #[no_mangle]
 pub extern "C" fn by_value_answers(bytes: &[u8]) -> usize
-    ensures { λ r. ⌜ r ≡ given fresh (now (bytes .entry)) ⌝ }
+    ensures { λ r. ⌜ r ≡ answerCount fresh (now (bytes .entry)) ⌝ }
 {
     let mut collector = Collector::fresh();
     let mut n = 0;

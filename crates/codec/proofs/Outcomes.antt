@@ -9,7 +9,7 @@ use native.Mathlib.Numerals.{add-one}
 use lib.Dec.{eqb}
 use lib.ListN.{length, drop, getD, set, drop-of-length-le}
 use lib.Seq.{sets, drop-cons}
-use borrow.Author.Tests.{eqb-true, le-leb, lt-leb}
+use borrow.Author.Tests.{eqb-true, eqb-false, le-leb, lt-leb}
 use Rattle.numbers.specs.Lent.{written}
 use Rattle.numbers.proofs.Storing.{from-first}
 use Rattle.codec.specs.declared.Written.{Written}
@@ -68,6 +68,20 @@ module _ {X R : Type 0} (id size : ℕ) (value : List ℕ → X) (good : X → B
       go true e true g h = (fits id size m (eqb-true _ 0 e), g, h)
       go true e false g h = absurd (never 8 h)
       go false e u g h = absurd (never _ h)
+
+  -- the same where the answer tells of a refusal by its number
+  pub accepted-as : (number : R → ℕ) → ((k : ℕ) → number (refusal k) ≡ k) → number (reading id size value good accepted refusal m) ≡ 0
+      → ((getD m 0 0 ≡ id) × (length m ≡ size)) × (good (value m) ≡ true) × (reading id size value good accepted refusal m ≡ accepted (value m))
+  unfolding reading
+  accepted-as number tells = go (eqb (misfit id size m) 0) refl (good (value m)) refl
+    where
+      go : (t : Bool) → eqb (misfit id size m) 0 ≡ t → (u : Bool) → good (value m) ≡ u
+          → number (cond t (cond u (accepted (value m)) (refusal 8)) (refusal (misfit id size m))) ≡ 0
+          → ((getD m 0 0 ≡ id) × (length m ≡ size)) × (good (value m) ≡ true)
+          × (cond t (cond u (accepted (value m)) (refusal 8)) (refusal (misfit id size m)) ≡ accepted (value m))
+      go true e true g h = (fits id size m (eqb-true _ 0 e), g, refl)
+      go true e false g h = absurd (omega (arith, tells 8))
+      go false e u g h = absurd (eqb-false _ 0 e (sym (tells _) ∙ h))
 
   -- the tests apart
   abbrev pick : {S : Type 0} → (X → S) → (ℕ → S) → Bool → Bool → Bool → Bool → S

@@ -15,20 +15,20 @@ unfoldable pub writing : Bool → List ℕ → ℕ → Written
 writing good bytes room = cond good (cond (leb (length bytes) room) (Bytes (length bytes)) (Refused 9)) (Refused 8)
 
 -- 01's number, and the bytes written, for each case
-abbrev pub number : Written → ℕ
-number (Bytes n) = 0
-number (Refused k) = k
+abbrev pub writtenNumber : Written → ℕ
+writtenNumber (Bytes n) = 0
+writtenNumber (Refused k) = k
 
-abbrev pub size : Written → ℕ
-size (Bytes n) = n
-size (Refused k) = 0
+abbrev pub writtenSize : Written → ℕ
+writtenSize (Bytes n) = n
+writtenSize (Refused k) = 0
 
 -- the bytes that each case writes for a message
-abbrev pub output : Written → List ℕ → List ℕ
-output (Bytes n) bytes = bytes
-output (Refused k) bytes = []
+abbrev pub writtenOutput : Written → List ℕ → List ℕ
+writtenOutput (Bytes n) bytes = bytes
+writtenOutput (Refused k) bytes = []
 
 -- the bytes of a message, written where the value is good
 pub record Wrote (good : Bool) (bytes out : List ℕ) (answer : Written) (left : List ℕ) : Type 0 where
   pub answers : answer ≡ writing good bytes (length out)
-  pub leaves : left ≡ written (output answer bytes) out
+  pub leaves : left ≡ written (writtenOutput answer bytes) out

@@ -8,7 +8,7 @@ use native.Mathlib.Omega.{arith}
 use lib.Dec.{eqb}
 use borrow.Author.Tests.{ne-eqb, eqb-true, eqb-false}
 use Rattle.numbers.specs.Bits.{_⊕_}
-use Rattle.framing.specs.Stuffing.{flag, controlEscape, escape, stuff, unstuffed, before, unstuff, Flagless}
+use Rattle.framing.specs.Stuffing.{flag, controlEscape, escape, stuff, unstuffed, byteBefore, unstuff, Flagless}
 use Rattle.framing.specs.Claims.{Unstuffs, Restuffs, StuffedFlagless}
 
 -- a byte is a flag, an escape, or neither
@@ -20,21 +20,21 @@ by-byte P b p q r = go (eqb b flag) (eqb b controlEscape) refl refl
     go false true e f = subst P (sym (eqb-true b controlEscape f)) q
     go false false e f = r e f
 
-pub unstuff-plain : (b : ℕ) (ws : List ℕ) → eqb b controlEscape ≡ false → unstuff (b ∷ ws) ≡ before b (unstuff ws)
+pub unstuff-plain : (b : ℕ) (ws : List ℕ) → eqb b controlEscape ≡ false → unstuff (b ∷ ws) ≡ byteBefore b (unstuff ws)
 unfolding unstuff
 unstuff-plain b [] e = simp e
 unstuff-plain b (c ∷ ws) e = simp e
 
-unstuff-escape : (b : ℕ) (ws : List ℕ) → unstuff (escape b ++ ws) ≡ before b (unstuff ws)
+unstuff-escape : (b : ℕ) (ws : List ℕ) → unstuff (escape b ++ ws) ≡ byteBefore b (unstuff ws)
 unfolding unstuff escape _⊕_
 unstuff-escape b ws =
-    by-byte (λ (b : ℕ). unstuff (escape b ++ ws) ≡ before b (unstuff ws)) b refl refl
+    by-byte (λ (b : ℕ). unstuff (escape b ++ ws) ≡ byteBefore b (unstuff ws)) b refl refl
     (λ e f. simp (e, f) (unstuff-plain b ws f))
 
 pub unstuffs : Unstuffs
 unfolding stuff unstuff
 unstuffs [] = refl
-unstuffs (b ∷ bs) = unstuff-escape b (stuff bs) ∙ ap (before b) (unstuffs bs)
+unstuffs (b ∷ bs) = unstuff-escape b (stuff bs) ∙ ap (byteBefore b) (unstuffs bs)
 
 -- 0x5D and 0x5E are what the two escaped bytes become
 escape-back : (c : ℕ) → (eqb c 0x5D || eqb c 0x5E) ≡ true → escape (c ⊕ 0x20) ≡ controlEscape ∷ c ∷ []
@@ -57,14 +57,14 @@ restuff-pair : (b c : ℕ) (ws : List ℕ) → (b ≡ flag → ⊥)
 unfolding unstuff stuff
 restuff-pair b c ws n past rest = go (eqb b controlEscape) refl
   where
-    two : (t : Bool) → (eqb c 0x5D || eqb c 0x5E) ≡ t → cond t (before (c ⊕ 0x20) (unstuff ws)) (unstuffed [] 1) .fault ≡ 0
-        → stuff (cond t (before (c ⊕ 0x20) (unstuff ws)) (unstuffed [] 1) .bytes) ≡ controlEscape ∷ c ∷ ws
+    two : (t : Bool) → (eqb c 0x5D || eqb c 0x5E) ≡ t → cond t (byteBefore (c ⊕ 0x20) (unstuff ws)) (unstuffed [] 1) .fault ≡ 0
+        → stuff (cond t (byteBefore (c ⊕ 0x20) (unstuff ws)) (unstuffed [] 1) .bytes) ≡ controlEscape ∷ c ∷ ws
     two true e h = ap₂ (λ (l r : List ℕ). l ++ r) (escape-back c e) (past h)
     two false e h = absurd (omega arith)
 
     go : (t : Bool) → eqb b controlEscape ≡ t
-        → cond t (cond (eqb c 0x5D || eqb c 0x5E) (before (c ⊕ 0x20) (unstuff ws)) (unstuffed [] 1)) (before b (unstuff (c ∷ ws))) .fault ≡ 0
-        → stuff (cond t (cond (eqb c 0x5D || eqb c 0x5E) (before (c ⊕ 0x20) (unstuff ws)) (unstuffed [] 1)) (before b (unstuff (c ∷ ws))) .bytes) ≡ b ∷ c ∷ ws
+        → cond t (cond (eqb c 0x5D || eqb c 0x5E) (byteBefore (c ⊕ 0x20) (unstuff ws)) (unstuffed [] 1)) (byteBefore b (unstuff (c ∷ ws))) .fault ≡ 0
+        → stuff (cond t (cond (eqb c 0x5D || eqb c 0x5E) (byteBefore (c ⊕ 0x20) (unstuff ws)) (unstuffed [] 1)) (byteBefore b (unstuff (c ∷ ws))) .bytes) ≡ b ∷ c ∷ ws
     go true e h = two (eqb c 0x5D || eqb c 0x5E) refl h ∙ ap (λ (x : ℕ). x ∷ c ∷ ws) (sym (eqb-true b controlEscape e))
     go false e h = ap₂ (λ (l r : List ℕ). l ++ r) (escape-plain b n e) (rest h)
 

@@ -4,7 +4,7 @@ use Prim.Native.Nat.{ℕ}
 use mathlib.Core.Bool.{cond}
 use lib.Dec.{eqb, leb}
 use Rattle.framing.specs.declared.Framed.{Framed}
-use Rattle.framing.specs.Framing.{number, size}
+use Rattle.framing.specs.Framing.{framedNumber, framedSize}
 use Rattle.collecting.specs.declared.Phase.{Phase}
 use Rattle.collecting.specs.declared.Phase.the-variants.{LeadIn, Open, Escape, BadEscape, TooLong}
 use Rattle.collecting.specs.declared.Control.{Control}
@@ -17,7 +17,7 @@ use Rattle.gdl90.specs.declared.FeedAnswer.{FeedAnswer}
 
 -- 01's number, and the bytes written, 0 with a refusal
 abbrev pub frameAnswer : Framed → FrameAnswer
-frameAnswer f = record { number = number f; length = size f }
+frameAnswer f = record { number = framedNumber f; length = framedSize f }
 
 abbrev pub phaseNumber : Phase → ℕ
 phaseNumber LeadIn = 0

@@ -8,7 +8,7 @@ use lib.Dec.{leb}
 use lib.ListN.{length}
 use Rattle.numbers.specs.Lent.{written}
 use Rattle.codec.specs.declared.Written.{Written}
-use Rattle.codec.specs.Writing.{number, size, output, writing}
+use Rattle.codec.specs.Writing.{writtenNumber, writtenSize, writtenOutput, writing}
 use Rattle.altitudes.specs.Height.{heightRead}
 use Rattle.altitudes.specs.Geometric.{geometricRead}
 use Rattle.passing.specs.Uplink.{uplinkRead}
@@ -48,12 +48,12 @@ abbrev pub longAnswer : List ℕ → FlatLongRead
 longAnswer m = record { number = longRead m .number; long = flatLong (longRead m .long) }
 
 abbrev pub writeAnswer : Written → WriteAnswer
-writeAnswer w = record { number = number w; length = size w }
+writeAnswer w = record { number = writtenNumber w; length = writtenSize w }
 
 -- what a way of writing answers and leaves
 pub record AnsweredBy (w : Written) (bytes out : List ℕ) (answer : WriteAnswer) (left : List ℕ) : Type 0 where
   pub answers : answer ≡ writeAnswer w
-  pub leaves : left ≡ written (output w bytes) out
+  pub leaves : left ≡ written (writtenOutput w bytes) out
 
 abbrev pub AnsweredWriting : Bool → List ℕ → List ℕ → WriteAnswer → List ℕ → Type 0
 AnsweredWriting good bytes out answer left = AnsweredBy (writing good bytes (length out)) bytes out answer left

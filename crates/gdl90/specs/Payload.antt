@@ -1,12 +1,12 @@
 -- The answers on an uplink payload's information frames, as C has them: 01's number, and the values, 0 with a refusal.
 -- Assumes nothing.
-use Rattle.uplink.specs.declared.Listing.{Listing}
+use Rattle.uplink.specs.declared.FrameList.{FrameList}
 use Rattle.uplink.specs.declared.Found.{Found}
 use Rattle.uplink.specs.Answers.{listNumber, listCount, listEnd, foundNumber, foundFrame, dataStart}
 use Rattle.gdl90.specs.declared.ListAnswer.{ListAnswer}
 use Rattle.gdl90.specs.declared.NthAnswer.{NthAnswer}
 
-abbrev pub listAnswer : Listing → ListAnswer
+abbrev pub listAnswer : FrameList → ListAnswer
 listAnswer l = record { number = listNumber l; count = listCount l; end = listEnd l }
 
 abbrev pub nthAnswer : Found → NthAnswer

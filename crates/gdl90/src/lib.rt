@@ -3,7 +3,7 @@ ghost use mathlib.Core.Path.{_≡_};
 ghost use lib.ListN.{length};
 ghost use Rattle.numbers.specs.Lent.{written};
 ghost use Rattle.fcs.specs.Fcs.{fcs};
-ghost use Rattle.framing.specs.Framing.{framing, output};
+ghost use Rattle.framing.specs.Framing.{framing, framedOutput};
 ghost use Rattle.collecting.specs.Step.{held};
 ghost use Rattle.collecting.specs.Stream.{run};
 ghost use Rattle.heartbeat.specs.Heartbeat.{goodHeartbeat, heartbeatBytes, heartbeatRead};
@@ -18,8 +18,8 @@ ghost use Rattle.c_structs.specs.Flat.{uplinkFrom, terrainFrom, geometricFrom, 
 ghost use Rattle.gdl90.specs.Messages.{kindAnswer, uplinkAnswer, heightAnswer, geometricAnswer, basicAnswer, longAnswer};
 ghost use Rattle.gdl90.specs.Messages.{writeAnswer, AnsweredBy, AnsweredWriting, ownshipFrom, trafficFrom, goodFlatReport};
 ghost use Rattle.messages.specs.Message.{kindIn, kindNumber, idOf};
-ghost use Rattle.uplink.specs.Walk.{listing};
-ghost use Rattle.uplink.specs.Answers.{counted, numbered};
+ghost use Rattle.uplink.specs.Walk.{payloadFrames};
+ghost use Rattle.uplink.specs.Answers.{frameList, nthFrame};
 ghost use Rattle.uplink.specs.Adding.{adding, addedNumber, payloadAfter};
 ghost use Rattle.gdl90.specs.Face.{frameAnswer, phaseNumber, phaseOf, controlOf, answerNumber, messageLength, feedAnswer, ranAnswer};
 ghost use Rattle.units.specs.Degrees.{inDegrees};
@@ -57,7 +57,7 @@ use units::PressureSteps;
 use units::TerrainFeet;
 use uplink::Added;
 use uplink::Found;
-use uplink::Listing;
+use uplink::FrameList;
 
 // 001 Table 9.
 const LAST_TRACK_KIND: u8 = 3;
@@ -81,7 +81,7 @@ pub struct FrameAnswer {
 #[no_mangle]
 pub extern "C" fn gdl90_frame(message: &[u8], out: &mut [u8]) -> FrameAnswer
     ensures answer { λ r. ⌜ r ≡ frameAnswer (framing (now (message .entry)) (length (now (out .entry)))) ⌝ }
-    ensures output { λ _. ⌜ now (out .exit) ≡ written (output (framing (now (message .entry)) (length (now (out .entry)))) (now (message .entry))) (now (out .entry)) ⌝ }
+    ensures output { λ _. ⌜ now (out .exit) ≡ written (framedOutput (framing (now (message .entry)) (length (now (out .entry)))) (now (message .entry))) (now (out .entry)) ⌝ }
 {
     let framed = framing::frame(message, out);
     frame_answer(framed)
@@ -495,15 +495,15 @@ pub struct ListAnswer {
 // `uplink::list`.
 #[no_mangle]
 pub extern "C" fn gdl90_list(payload: &[u8]) -> ListAnswer
-    ensures { λ r. ⌜ r ≡ listAnswer (counted (listing (now (payload .entry)))) ⌝ }
+    ensures { λ r. ⌜ r ≡ listAnswer (frameList (payloadFrames (now (payload .entry)))) ⌝ }
 {
     match uplink::list(payload) {
-        Listing::Frames { count, end } => ListAnswer {
+        FrameList::Frames { count, end } => ListAnswer {
             number: 0,
             count,
             end,
         },
-        Listing::Refused(number) => ListAnswer {
+        FrameList::Refused(number) => ListAnswer {
             number,
             count: 0,
             end: 0,
@@ -524,7 +524,7 @@ pub struct NthAnswer {
 // `uplink::nth`.
 #[no_mangle]
 pub extern "C" fn gdl90_nth(payload: &[u8], n: usize) -> NthAnswer
-    ensures { λ r. ⌜ r ≡ nthAnswer (numbered (listing (now (payload .entry))) n) ⌝ }
+    ensures { λ r. ⌜ r ≡ nthAnswer (nthFrame (payloadFrames (now (payload .entry))) n) ⌝ }
 {
     match uplink::nth(payload, n) {
         Found::Frame(f) => NthAnswer {
@@ -553,8 +553,8 @@ fn no_frame(number: u8) -> NthAnswer
 // `uplink::add`: 01's number, 0 where the frame was added.
 #[no_mangle]
 pub extern "C" fn gdl90_add(payload: &mut [u8], kind: u8, bytes: &[u8]) -> u8
-    ensures answer { λ r. ⌜ r ≡ addedNumber (adding (listing (now (payload .entry))) kind (length (now (bytes .entry)))) ⌝ }
-    ensures payload { λ _. ⌜ now (payload .exit) ≡ payloadAfter (adding (listing (now (payload .entry))) kind (length (now (bytes .entry)))) (now (payload .entry)) kind (now (bytes .entry)) ⌝ }
+    ensures answer { λ r. ⌜ r ≡ addedNumber (adding (payloadFrames (now (payload .entry))) kind (length (now (bytes .entry)))) ⌝ }
+    ensures payload { λ _. ⌜ now (payload .exit) ≡ payloadAfter (adding (payloadFrames (now (payload .entry))) kind (length (now (bytes .entry)))) (now (payload .entry)) kind (now (bytes .entry)) ⌝ }
 {
     match uplink::add(payload, kind, bytes) {
         Added::Done => 0,

@@ -27,7 +27,7 @@ in-bits h g =
       time = omega arith;
       uplinks = ltb-true _ _ (d .0);
       reserved = ltb-true _ _ (e .0);
-      received = ltb-true _ _ (e .1);
+      counts = ltb-true _ _ (e .1);
     }
 
 -- three bytes hold the time and the rest of status byte 2
@@ -43,7 +43,7 @@ unfolding heartbeatIn
 written-read h g =
     let b = in-bits h g in
     let t = time-kept (b .status2) (b .time) in
-    let n = counts-kept (b .uplinks) (b .reserved) (b .received) in
+    let n = counts-kept (b .uplinks) (b .reserved) (b .counts) in
     simp (t .0, t .1, n .0, n .1, n .2)
 
 time-back : {s l h : ℕ} → s < 256 → l < 256 → h < 256 → (timeOf s l h / 65536 * 128 + s % 128 ≡ s) × (timeOf s l h % 256 ≡ l) × (timeOf s l h / 256 % 256 ≡ h)

@@ -72,4 +72,4 @@ pub record HeartbeatBits (h : Heartbeat) : Type 0 where
   pub time : h .time < 131072
   pub uplinks : h .uplinks < 32
   pub reserved : h .reserved < 2
-  pub received : h .«basic_and_long» < 1024
+  pub counts : h .«basic_and_long» < 1024

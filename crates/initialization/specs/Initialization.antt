@@ -22,12 +22,12 @@ goodInitialization i = true
 abbrev pub initializationBytes : Initialization → List ℕ
 initializationBytes i = 2 ∷ i .first ∷ i .second ∷ []
 
-abbrev pub initializationAnswer : ℕ → ℕ → ℕ → InitializationRead
-initializationAnswer k first second = record { number = k; initialization = record { first = first; second = second } }
+abbrev pub initializationRefused : ℕ → InitializationRead
+initializationRefused k = record { number = k; initialization = record { first = 0; second = 0 } }
 
 abbrev pub initializationRead : List ℕ → InitializationRead
 initializationRead =
-    reading 2 3 initializationIn goodInitialization (λ i. record { number = 0; initialization = i }) (λ k. initializationAnswer k 0 0)
+    reading 2 3 initializationIn goodInitialization (λ i. record { number = 0; initialization = i }) initializationRefused
 
 abbrev pub readInitialization : List ℕ → Reading
 readInitialization = reading 2 3 initializationIn goodInitialization (λ i. Message (kind.Initialization i)) Refused

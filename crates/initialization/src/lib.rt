@@ -1,7 +1,7 @@
 // The initialization (001 §3.2): what the receiver is told.
 ghost use mathlib.Core.Path.{_≡_};
 ghost use Rattle.codec.specs.Writing.{Wrote};
-ghost use Rattle.initialization.specs.Initialization.{goodInitialization, initializationBytes, initializationAnswer, initializationRead};
+ghost use Rattle.initialization.specs.Initialization.{goodInitialization, initializationBytes, initializationRefused, initializationRead};
 use message_types::Initialization;
 use message_types::InitializationRead;
 
@@ -10,17 +10,25 @@ pub fn read_initialization(message: &[u8]) -> InitializationRead
 {
     let misfit = codec::misfit(message, Initialization::ID, Initialization::LENGTH);
     if misfit != 0 {
-        return initialization_answer(misfit, 0, 0);
+        return initialization_refused(misfit);
     }
-    initialization_answer(0, message[1], message[2])
+    let first = message[1];
+    let second = message[2];
+    InitializationRead {
+        number: 0,
+        initialization: Initialization { first, second },
+    }
 }
 
-fn initialization_answer(number: u8, first: u8, second: u8) -> InitializationRead
-    ensures { λ r. ⌜ r ≡ initializationAnswer number first second ⌝ }
+fn initialization_refused(number: u8) -> InitializationRead
+    ensures { λ r. ⌜ r ≡ initializationRefused number ⌝ }
 {
     InitializationRead {
         number,
-        initialization: Initialization { first, second },
+        initialization: Initialization {
+            first: 0,
+            second: 0,
+        },
     }
 }
 

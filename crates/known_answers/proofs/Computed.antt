@@ -15,13 +15,13 @@ use Rattle.report.specs.Marks.{positionOf, altitudeOf, speedOf, climbOf}
 use Rattle.report.specs.Bytes.{reportIn}
 use Rattle.report.specs.Reading.{goodPosition, goodReport}
 use Rattle.messages.specs.Message.{kindIn, readMessage}
-use Rattle.uplink.specs.Walk.{before, walk, listing}
-use Rattle.uplink.specs.Answers.{counted}
+use Rattle.uplink.specs.Walk.{framesBefore, walk, payloadFrames}
+use Rattle.uplink.specs.Answers.{frameList}
 use Rattle.known_answers.specs.Row.{Holds, done, _and_}
 use Rattle.known_answers.specs.Values.{Starred, Examples}
 
 pub starred-hold : Starred
-unfolding Holds _⊕_ bit signedIn bits step fcs escape stuff lowFirst enclosed frameOf collected unescaped inside checked closed taken next answerTo shown reply replyTo answers misfit reading heartbeatIn trackFrom positionOf altitudeOf speedOf climbOf reportIn goodPosition goodReport kindIn readMessage before walk listing counted
+unfolding Holds _⊕_ bit signedIn bits step fcs escape stuff lowFirst enclosed frameOf collected unescaped inside checked closed taken next answerTo shown reply replyTo answers misfit reading heartbeatIn trackFrom positionOf altitudeOf speedOf climbOf reportIn goodPosition goodReport kindIn readMessage framesBefore walk payloadFrames frameList
 starred-hold = refl and refl and refl and refl and refl and refl and refl and refl and refl and refl and refl and refl and refl and refl and refl and refl and refl and refl and refl and refl and refl and refl and refl and refl and refl and refl and refl and refl and refl and done
 
 pub examples-hold : Examples

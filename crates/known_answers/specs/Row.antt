@@ -21,11 +21,11 @@ use Rattle.message_types.specs.declared.Message.the-variants.{Heartbeat, Traffi
 use Rattle.message_types.specs.declared.Reading.{Reading}
 use Rattle.message_types.specs.declared.Reading.the-variants.{Message}
 use Rattle.messages.specs.Message.{readMessage}
-use Rattle.uplink.specs.declared.Listing.{Listing}
+use Rattle.uplink.specs.declared.FrameList.{FrameList}
 use Rattle.uplink.specs.Frames.{lengthIn}
-use Rattle.uplink.specs.Walk.{listing}
-use Rattle.uplink.specs.Answers.{counted}
-use Rattle.uplink.specs.Claims.{payload}
+use Rattle.uplink.specs.Walk.{payloadFrames}
+use Rattle.uplink.specs.Answers.{frameList}
+use Rattle.uplink.specs.Claims.{payloadWith}
 
 pub data Row : Type 0 where
   -- a message and its check sequence
@@ -44,7 +44,7 @@ pub data Row : Type 0 where
   -- the two bytes of an information frame's header, and its length
   header : ℕ → ℕ → ℕ → Row
   -- a header at byte 0 of valid application data with zeros behind it, and what listing answers
-  list : ℕ → ℕ → Listing → Row
+  list : ℕ → ℕ → FrameList → Row
 
 -- a heartbeat with status 81 41, its time and its two counts
 abbrev pub heartbeatWith : ℕ → ℕ → ℕ → Reading
@@ -52,8 +52,8 @@ heartbeatWith time uplinks others =
     Message (Heartbeat (record { status1 = 0x81; status2 = 0x41; time = time; uplinks = uplinks; reserved = 0; «basic_and_long» = others }))
 
 -- 001 §3.5.2's traffic report, with the fields of altitude and climb
-abbrev pub trafficBytes : ℕ → ℕ → List ℕ
-trafficBytes d v =
+abbrev pub trafficMessage : ℕ → ℕ → List ℕ
+trafficMessage d v =
     0x14 ∷ 0x00 ∷ 0xAB ∷ 0x45 ∷ 0x49 ∷ 0x1F ∷ 0xEF ∷ 0x15 ∷ 0xA8 ∷ 0x89 ∷ 0x78 ∷ (d / 16) ∷ (d % 16 * 16 + 9) ∷ 0xA9 ∷ 0x07
     ∷ (0xB0 + v / 256) ∷ (v % 256) ∷ 0x20 ∷ 0x01 ∷ 0x4E ∷ 0x38 ∷ 0x32 ∷ 0x35 ∷ 0x56 ∷ 0x20 ∷ 0x20 ∷ 0x20 ∷ 0x00 ∷ []
 
@@ -90,7 +90,7 @@ Holds (between bs a) = answers fresh (flag ∷ bs ++ (flag ∷ [])) ≡ replicat
 Holds (read m r) = readMessage m ≡ r
 Holds (feet d z) = pressureFeet (record { steps = d }) ≡ z
 Holds (header a b n) = lengthIn a b ≡ n
-Holds (list a b l) = counted (listing (payload (a ∷ b ∷ []) 422)) ≡ l
+Holds (list a b l) = frameList (payloadFrames (payloadWith (a ∷ b ∷ []) 422)) ≡ l
 
 infixr 5 _and_
 pub data AllHold : List Row → Type 0 where

@@ -6,8 +6,8 @@ use lib.IntN.{pos, negsuc}
 use Rattle.collecting.specs.Stream.{message, refused}
 use Rattle.message_types.specs.declared.Climb.the-variants.{Steps}
 use Rattle.message_types.specs.declared.Reading.the-variants.{Refused}
-use Rattle.uplink.specs.declared.Listing.the-variants as uplink
-use Rattle.known_answers.specs.Row.{Row, sequence, frame, shortest, longest, between, read, feet, header, list, heartbeatWith, trafficBytes, trafficWith, AllHold}
+use Rattle.uplink.specs.declared.FrameList.the-variants as uplink
+use Rattle.known_answers.specs.Row.{Row, sequence, frame, shortest, longest, between, read, feet, header, list, heartbeatWith, trafficMessage, trafficWith, AllHold}
 
 abbrev pub starred : List Row
 starred =
@@ -33,16 +33,16 @@ starred =
     ∷ read (0x00 ∷ 0x81 ∷ 0xC1 ∷ 0x7F ∷ 0x51 ∷ 0x08 ∷ 0x02 ∷ []) (heartbeatWith 86399 1 2)
     ∷ read (0x00 ∷ 0x81 ∷ 0xC1 ∷ 0x80 ∷ 0x51 ∷ 0x08 ∷ 0x02 ∷ []) (Refused 8)
     -- 8. Climb 0x1FD is 509, 0xE03 is -509, 0xFFF is -1; 0x1FF refused. `negsuc k` is -(k + 1)
-    ∷ read (trafficBytes 0x0F0 0x1FD) (trafficWith 240 (Steps (pos 509)))
-    ∷ read (trafficBytes 0x0F0 0xE03) (trafficWith 240 (Steps (negsuc 508)))
-    ∷ read (trafficBytes 0x0F0 0xFFF) (trafficWith 240 (Steps (negsuc 0)))
-    ∷ read (trafficBytes 0x0F0 0x1FF) (Refused 8)
+    ∷ read (trafficMessage 0x0F0 0x1FD) (trafficWith 240 (Steps (pos 509)))
+    ∷ read (trafficMessage 0x0F0 0xE03) (trafficWith 240 (Steps (negsuc 508)))
+    ∷ read (trafficMessage 0x0F0 0xFFF) (trafficWith 240 (Steps (negsuc 0)))
+    ∷ read (trafficMessage 0x0F0 0x1FF) (Refused 8)
     -- 9. Altitude 0x000 is -1,000 feet, 0x028 is 0, 0xFFE is 101,350
-    ∷ read (trafficBytes 0x000 0x001) (trafficWith 0 (Steps (pos 1)))
+    ∷ read (trafficMessage 0x000 0x001) (trafficWith 0 (Steps (pos 1)))
     ∷ feet 0 (negsuc 999)
-    ∷ read (trafficBytes 0x028 0x001) (trafficWith 40 (Steps (pos 1)))
+    ∷ read (trafficMessage 0x028 0x001) (trafficWith 40 (Steps (pos 1)))
     ∷ feet 40 (pos 0)
-    ∷ read (trafficBytes 0xFFE 0x001) (trafficWith 4094 (Steps (pos 1)))
+    ∷ read (trafficMessage 0xFFE 0x001) (trafficWith 4094 (Steps (pos 1)))
     ∷ feet 4094 (pos 101350)
     -- 10. Frame header 96 00 is length 300, 00 80 is 1, D3 00 at byte 0 is 422 and fits; D3 80 gives 11
     ∷ header 0x96 0x00 300
@@ -58,7 +58,7 @@ Starred = AllHold starred
 abbrev pub examples : List Row
 examples =
     -- 11. Traffic of 001 §3.5.2: 5,000 feet, 123 knots, one step of climb, N825V
-    read (trafficBytes 0x0F0 0x001) (trafficWith 240 (Steps (pos 1)))
+    read (trafficMessage 0x0F0 0x001) (trafficWith 240 (Steps (pos 1)))
     ∷ feet 240 (pos 5000)
     -- 001 §2.2.4: the heartbeat's frame
     ∷ frame (0x00 ∷ 0x81 ∷ 0x41 ∷ 0xDB ∷ 0xD0 ∷ 0x08 ∷ 0x02 ∷ []) (0x7E ∷ 0x00 ∷ 0x81 ∷ 0x41 ∷ 0xDB ∷ 0xD0 ∷ 0x08 ∷ 0x02 ∷ 0xB3 ∷ 0x8B ∷ 0x7E ∷ [])

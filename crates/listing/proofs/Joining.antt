@@ -12,7 +12,7 @@ use borrow.Author.Tests.{ltb-true, lt-ltb, le-leb}
 use Rattle.numbers.specs.Lent.{Stored}
 use Rattle.listing.specs.declared.Processed.{Processed}
 use Rattle.listing.specs.Listing.{limit, longest, State, state, opening, start, counted, advanced, textOf, reached, texts, listing, Sane, takenOf, Processes}
-use Rattle.listing.specs.Stretches.{Run, stop, full, call}
+use Rattle.listing.specs.Stretches.{Calls, stop, full, call}
 use Rattle.listing.specs.Claims.{Joined, Moves}
 use Rattle.listing.proofs.Steps.{sane-opening, steady-sane, settled-sane, reached-append, texts-append, reached-taken, sane-reached}
 
@@ -89,7 +89,7 @@ sane-front s bs left room r w p =
     let e : r .lister ≡ reached s (take (r .taken) bs) .lister = ap (λ (z : State). z .lister) (p .state) in
     rw e (sane-reached s (take (r .taken) bs) w (omega (arith, p .few, w .few, length-take-le (r .taken) bs (p .within))))
 
-ends : {s s′ : State} {bs text : List ℕ} → Run s bs text s′ → Sane (s .lister) → Ends s bs text s′
+ends : {s s′ : State} {bs text : List ℕ} → Calls s bs text s′ → Sane (s .lister) → Ends s bs text s′
 ends (stop {s}) w = ends-stop s
 ends (full {s} {bs} h) w = ends-full s bs h
 ends (call {s} {s′} {bs} {out} {left} {room} {rest} {r} k p q) w =

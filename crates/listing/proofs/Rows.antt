@@ -12,7 +12,7 @@ use Rattle.collecting.specs.declared.Answer.{Answer}
 use Rattle.collecting.specs.declared.Answer.the-variants.{Accepted}
 use Rattle.collecting.specs.Stream.{reply}
 use Rattle.collecting.specs.Claims.{Ranged}
-use Rattle.messages.specs.Message.{readMessage, number}
+use Rattle.messages.specs.Message.{readMessage, readingNumber}
 use Rattle.listing.specs.declared.Lister.{Lister}
 use Rattle.listing.specs.Line.{decimal, Field, digits, dash, field, line}
 use Rattle.listing.specs.Listing.{answerLine, replyLine, lastLine}
@@ -52,6 +52,6 @@ ranged a k e w = rw e at w
 
 -- what an accepted message's line says, from the lent message and the number of its bytes
 pub accepted-line : (l : Lister) (a : Answer) (m : List ℕ) (k : ℕ) → a ≡ Accepted k → 1 ≤ k → k ≤ length m
-    → answerLine l (number (readMessage (take k m))) (digits (getD m 0 0)) (digits k) ≡ replyLine l (reply a m)
+    → answerLine l (readingNumber (readMessage (take k m))) (digits (getD m 0 0)) (digits k) ≡ replyLine l (reply a m)
 unfolding reply replyLine
 accepted-line l a m k e low high = rw (e, getD-take k m 0 0 low, length-take-le k m high)

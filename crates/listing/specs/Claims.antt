@@ -6,11 +6,11 @@ use Prim.Native.Nat.{ℕ, _≤_, _<_}
 use lib.ListN.{take}
 use Rattle.collecting.specs.Stream.{unflagged}
 use Rattle.listing.specs.Listing.{limit, longest, State, start, reached, header, lastLine, ending, listing, steady, takenOf}
-use Rattle.listing.specs.Stretches.{Run, trail}
+use Rattle.listing.specs.Stretches.{Calls, trail}
 
 -- whatever the stretches, the header, their texts joined and the last line are the listing of the whole input, up to the limit
 abbrev pub Joined : Type 0
-Joined = (bs text : List ℕ) (s : State) → Run start bs text s → header ++ (text ++ ending (steady (s .lister))) ≡ listing (take limit bs)
+Joined = (bs text : List ℕ) (s : State) → Calls start bs text s → header ++ (text ++ ending (steady (s .lister))) ≡ listing (take limit bs)
 
 -- below the limit a call with a byte at hand and room for a line takes a byte or more, so that a program that goes on calling ends
 abbrev pub Moves : Type 0

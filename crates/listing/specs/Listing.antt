@@ -12,7 +12,7 @@ use Rattle.collecting.specs.declared.Control.{Control}
 use Rattle.collecting.specs.declared.Collector.{Collector}
 use Rattle.collecting.specs.Step.{held, fresh, next, answerTo}
 use Rattle.collecting.specs.Stream.{Reply, nothing, message, refused, replyTo, isAnswered}
-use Rattle.messages.specs.Message.{readMessage, number}
+use Rattle.messages.specs.Message.{readMessage, readingNumber}
 use Rattle.listing.specs.declared.Lister.{Lister}
 use Rattle.listing.specs.declared.Processed.{Processed}
 use Rattle.listing.specs.Line.{Field, digits, dash, line}
@@ -50,7 +50,7 @@ answerLine l answer id len = line (digits (l .lines + 1) ∷ digits (l .after) �
 -- the answer is that of collecting, or of reading if collecting gave 0; nothing between two flags has no line
 unfoldable pub replyLine : Lister → Reply → List ℕ
 replyLine l nothing = []
-replyLine l (message m) = answerLine l (number (readMessage m)) (digits (getD m 0 0)) (digits (length m))
+replyLine l (message m) = answerLine l (readingNumber (readMessage m)) (digits (getD m 0 0)) (digits (length m))
 replyLine l (refused n) = answerLine l n dash dash
 
 -- what a byte adds to the text

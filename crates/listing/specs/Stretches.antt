@@ -11,11 +11,11 @@ use Rattle.listing.specs.Listing.{limit, State, state, settled, Processe
 
 -- from a state, over the bytes that are left: what is written, and the last state. Each call of `process` is on the first of them, as
 -- many as are at hand, with whatever room for their text, and the text that it leaves there is written
-pub data Run : State → List ℕ → List ℕ → State → Type 0 where
-  stop : {s : State} → Run s [] [] s
-  full : {s : State} {bs : List ℕ} → limit ≤ s .lister .taken → Run s bs [] s
+pub data Calls : State → List ℕ → List ℕ → State → Type 0 where
+  stop : {s : State} → Calls s [] [] s
+  full : {s : State} {bs : List ℕ} → limit ≤ s .lister .taken → Calls s bs [] s
   call : {s s′ : State} {bs out left room rest : List ℕ} {r : Processed} (k : ℕ) → Processes (settled s) (take k bs) out r room left
-      → Run (state (r .lister) room) (drop (r .taken) bs) rest s′ → Run s bs (take (r .written) left ++ rest) s′
+      → Calls (state (r .lister) room) (drop (r .taken) bs) rest s′ → Calls s bs (take (r .written) left ++ rest) s′
 
 -- the bytes after the last flag, where n are before bs and after a flag
 unfoldable pub trailBy : ℕ → List ℕ → ℕ

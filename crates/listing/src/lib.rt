@@ -7,7 +7,7 @@ ghost use lib.ListN.{length, take};
 ghost use Rattle.numbers.specs.Lent.{Stored};
 ghost use Rattle.collecting.specs.Stream.{reply, unflagged};
 ghost use Rattle.collecting.specs.Claims.{Ranged};
-ghost use Rattle.messages.specs.Message.{readMessage, number};
+ghost use Rattle.messages.specs.Message.{readMessage, readingNumber};
 ghost use Rattle.listing.specs.Line.{decimal, field, shownAs};
 ghost use Rattle.listing.specs.Listing.{limit, longest, state, answerLine, replyLine, textOf, advanced, reached, header, ending, Sane, Processes};
 ghost use Rattle.listing.specs.Listing.{opening as Listing·opening, start as Listing·start, steady as Listing·steady, counted as Listing·counted, passed as Listing·passed, holds as Listing·holds, settled as Listing·settled};
@@ -276,13 +276,13 @@ fn put_reply(out: &mut [u8], at: usize, l: Lister, answer: Answer, message: &[u8
 // What reading the first k bytes answers.
 fn read_number(message: &[u8], k: usize) -> u8
     requires { ⌜ k ≤ length (now message) ⌝ }
-    ensures { λ r. ⌜ r ≡ number (readMessage (take k (now (message .entry)))) ⌝ }
+    ensures { λ r. ⌜ r ≡ readingNumber (readMessage (take k (now (message .entry)))) ⌝ }
 {
     number_of(messages::read(&message[..k]))
 }
 
 fn number_of(reading: Reading) -> u8
-    ensures { λ r. ⌜ r ≡ number reading ⌝ }
+    ensures { λ r. ⌜ r ≡ readingNumber reading ⌝ }
 {
     match reading {
         Reading::Message(_) => 0,

@@ -3,7 +3,7 @@
 use mathlib.Core.Path.{_≡_, refl, ap, _∙_, subst}
 use mathlib.Core.Bool.{Bool, true, false, cond}
 use Prim.Native.Nat.{ℕ}
-use mathlib.Core.List.{List}
+use mathlib.Core.List.{List, [], _∷_}
 use native.Mathlib.Omega.{arith}
 use lib.Dec.{eqb}
 use lib.ListN.{length, drop, getD, length-drop}
@@ -19,7 +19,7 @@ use Rattle.heartbeat.specs.Heartbeat.{heartbeatIn, goodHeartbeat}
 use Rattle.initialization.specs.Initialization.{initializationIn, goodInitialization}
 use Rattle.altitudes.specs.Height.{terrainIn, goodTerrain, terrainBytes}
 use Rattle.altitudes.specs.Geometric.{geometricIn, goodGeometric, geometricBytes}
-use Rattle.passing.specs.Uplink.{uplinkIn, goodUplink, uplinkBytes}
+use Rattle.passing.specs.Uplink.{uplinkIn, goodUplink, uplinkBytes, payloadOf}
 use Rattle.passing.specs.PassThrough.{basicPassThroughIn, goodBasicPassThrough, longPassThroughIn, goodLongPassThrough}
 use Rattle.report.specs.Bytes.{reportIn, reportBytes}
 use Rattle.report.specs.Reading.{goodReport}
@@ -31,28 +31,37 @@ use Rattle.passing.proofs.PassThroughs as pass-throughs
 use Rattle.report.proofs.Laws as reports
 use Rattle.messages.specs.declared.Kind.{Kind}
 use Rattle.messages.specs.declared.Kind.the-variants as kind
-use Rattle.messages.specs.Message.{kindIn, readAs, readMessage, messageBytes, goodMessage, goodPayload}
-use Rattle.messages.specs.Claims.{WrittenRead, ReadWritten, ReadGood}
+use Rattle.messages.specs.Message.{kindIn, readAs, readMessage, readingNumber, readingValue, messageBytes, goodMessage, goodPayload, carried}
+use Rattle.messages.specs.Claims.{Typed, Reads, WrittenRead, ReadWritten, ReadGood}
 
 apart : {k : ℕ} {x : Message} → Refused k ≡ Accepted x → ⊥
 apart e = let z : _≡_ {A = ℕ} 0 1 = cc in omega arith
 
-pub written-read : WrittenRead
+-- a reading is what its number and its value say
+heard : (r : Reading) {x : Message} → readingValue r ≡ x ∷ [] → r ≡ Accepted x
+heard (Accepted y) e = cc
+heard (Refused k) e = let z : _≡_ {A = ℕ} 0 1 = cc in absurd (omega arith)
+
+accepted : (x : Message) (payload : List ℕ) → Typed x → goodPayload x payload ≡ true → goodMessage x ≡ true
+    → (readMessage (messageBytes x payload) ≡ Accepted x) × (payloadOf (messageBytes x payload) ≡ carried x payload)
 unfolding misfit reading kindIn readMessage terrainBytes geometricBytes reportBytes
-written-read (Heartbeat h) payload t p g = (simp (heartbeats.written-read h g, g), refl)
-written-read (Initialization i) payload t p g = (simp (initializations.written-read i g), refl)
-written-read (Uplink u) payload t p g =
+accepted (Heartbeat h) payload t p g = (simp (heartbeats.written-read h g, g), refl)
+accepted (Initialization i) payload t p g = (simp (initializations.written-read i g), refl)
+accepted (Uplink u) payload t p g =
     let e = eqb-true (length payload) 432 p in
     let law = uplinks.written-read u payload g e in
     let back = law .0 in
     let n = length (uplinkBytes u payload) in
     (simp (ne-eqb n 0 (λ z. omega arith), eq-eqb n 436 (omega arith), back, ap goodUplink back ∙ g), law .1)
-written-read (Height h) payload t p g = (simp (altitudes.terrain-written-read h t g, g), refl)
-written-read (Ownship o) payload t p g = (simp (reports.written-read 10 (o .report) g, g), refl)
-written-read (Geometric a) payload t p g = (simp (altitudes.geometric-written-read a t g, g), refl)
-written-read (Traffic o) payload t p g = (simp (reports.written-read 20 (o .report) g, g), refl)
-written-read (Basic b) payload t p g = (simp (pass-throughs.basic-written-read b g, g), refl)
-written-read (Long b) payload t p g = (simp (pass-throughs.long-written-read b g, g), refl)
+accepted (Height h) payload t p g = (simp (altitudes.terrain-written-read h t g, g), refl)
+accepted (Ownship o) payload t p g = (simp (reports.written-read 10 (o .report) g, g), refl)
+accepted (Geometric a) payload t p g = (simp (altitudes.geometric-written-read a t g, g), refl)
+accepted (Traffic o) payload t p g = (simp (reports.written-read 20 (o .report) g, g), refl)
+accepted (Basic b) payload t p g = (simp (pass-throughs.basic-written-read b g, g), refl)
+accepted (Long b) payload t p g = (simp (pass-throughs.long-written-read b g, g), refl)
+
+pub written-read : WrittenRead
+written-read x payload t p g = let r = accepted x payload t p g in ((ap readingNumber (r .0), ap readingValue (r .0)), r .1)
 
 module _ (m : List ℕ) (x : Message) where
   -- what ReadWritten and ReadGood say of one message
@@ -87,9 +96,9 @@ module _ (m : List ℕ) (x : Message) where
     of-kind kind.Long = held 31 38 longPassThroughIn goodLongPassThrough Long (λ n l g. (g, refl, pass-throughs.long-read-written m l bytes n))
     of-kind kind.Unknown = λ h. absurd (apart h)
 
-same : (m : List ℕ) (x : Message) → AreBytes m → readMessage m ≡ Accepted x → Same m x x
+same : (m : List ℕ) (x : Message) → AreBytes m → Reads m x → Same m x x
 unfolding readMessage
-same m x bytes = of-kind m x bytes (kindIn m)
+same m x bytes h = of-kind m x bytes (kindIn m) (heard (readMessage m) (h .1))
 
 pub read-written : ReadWritten
 read-written m x bytes h = same m x bytes h .2

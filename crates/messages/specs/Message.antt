@@ -3,13 +3,13 @@
 use mathlib.Core.Path.{_≡_}
 use Prim.Native.Nat.{ℕ}
 use mathlib.Core.Bool.{Bool, true, cond}
-use mathlib.Core.List.{List, []}
+use mathlib.Core.List.{List, [], _∷_}
 use lib.Dec.{eqb}
 use lib.ListN.{length, getD}
 use Rattle.numbers.specs.Lent.{written}
 use Rattle.codec.specs.declared.Written.{Written}
 use Rattle.codec.specs.declared.Written.the-variants.{Refused as NotWritten}
-use Rattle.codec.specs.Writing.{writing, output}
+use Rattle.codec.specs.Writing.{writing, writtenOutput}
 use Rattle.message_types.specs.declared.Message.{Message}
 use Rattle.message_types.specs.declared.Message.the-variants.{Heartbeat, Initialization, Uplink, Height, Ownship, Geometric, Traffic, Basic, Long}
 use Rattle.message_types.specs.declared.Reading.{Reading}
@@ -87,10 +87,14 @@ readMessage m = readAs (kindIn m) m
 abbrev pub asReading : ℕ → Message → Reading
 asReading k x = cond (eqb k 0) (Accepted x) (Refused k)
 
--- 01's number for each case of a reading
-abbrev pub number : Reading → ℕ
-number (Accepted x) = 0
-number (Refused k) = k
+-- 01's number and the value for each case of a reading: a refusal carries only the number
+abbrev pub readingNumber : Reading → ℕ
+readingNumber (Accepted x) = 0
+readingNumber (Refused k) = k
+
+abbrev pub readingValue : Reading → List Message
+readingValue (Accepted x) = x ∷ []
+readingValue (Refused k) = []
 
 -- the bytes of a message; an uplink's payload is given beside it
 abbrev pub messageBytes : Message → List ℕ → List ℕ
@@ -146,4 +150,4 @@ writingMessage x payload room = cond (goodPayload x payload) (writing (goodMessa
 
 pub record WroteMessage (x : Message) (payload out : List ℕ) (answer : Written) (left : List ℕ) : Type 0 where
   pub answers : answer ≡ writingMessage x payload (length out)
-  pub leaves : left ≡ written (output answer (messageBytes x payload)) out
+  pub leaves : left ≡ written (writtenOutput answer (messageBytes x payload)) out

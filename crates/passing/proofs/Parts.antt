@@ -11,14 +11,14 @@ use borrow.Author.Tests.{le-leb}
 use Rattle.numbers.specs.Lent.{written}
 use Rattle.codec.specs.declared.Written.{Written}
 use Rattle.codec.specs.declared.Written.the-variants.{Bytes}
-use Rattle.codec.specs.Writing.{writing, output, Wrote}
+use Rattle.codec.specs.Writing.{writing, writtenOutput, Wrote}
 
 -- what a put with room for all leaves
 filled : {bytes out left : List ℕ} {r : Written} → length bytes ≤ length out → Wrote true bytes out r left → left ≡ written bytes out
 unfolding writing
 filled {bytes} {out} {r = r} h w =
     let e : r ≡ Bytes (length bytes) = w .answers ∙ simp (le-leb (length bytes) (length out) h) in
-    w .leaves ∙ ap (λ (x : Written). written (output x bytes) out) e
+    w .leaves ∙ ap (λ (x : Written). written (writtenOutput x bytes) out) e
 
 -- a put behind a
 behind : (a b rest : List ℕ) {r : Written} {left : List ℕ} → length b ≤ length rest

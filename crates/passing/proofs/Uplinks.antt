@@ -13,25 +13,20 @@ use Rattle.numbers.specs.Lent.{written}
 use Rattle.codec.specs.declared.Written.{Written}
 use Rattle.codec.specs.declared.Written.the-variants.{Refused as RefusedWriting}
 use Rattle.codec.specs.Reading.{misfit, reading}
-use Rattle.codec.proofs.Outcomes.{fits}
+use Rattle.codec.proofs.Outcomes.{accepted-as}
 use Rattle.message_types.specs.declared.Reception.the-variants.{Steps}
 use Rattle.passing.specs.Reception.{receptionIn}
 use Rattle.codec.specs.Writing.{Wrote}
 use Rattle.message_types.specs.declared.Uplink.{Uplink}
 use Rattle.message_types.specs.declared.UplinkRead.{UplinkRead}
-use Rattle.passing.specs.Uplink.{uplinkIn, goodUplink, uplinkBytes, uplinkAnswer, uplinkRead, payloadOf, writingUplink, WroteUplink}
+use Rattle.passing.specs.Uplink.{uplinkIn, goodUplink, uplinkBytes, uplinkRefused, uplinkRead, payloadOf, writingUplink, WroteUplink}
 use Rattle.passing.specs.Claims.{UplinkWrittenRead, UplinkReadWritten}
 use Rattle.passing.proofs.Receptions.{kept, whole-drop}
 
 -- what is read as an uplink is as long as one
 pub sized : (m : List ℕ) {r : UplinkRead} → r ≡ uplinkRead m → r .number ≡ 0 → length m ≡ 436
-unfolding reading
-sized m e f = go (eqb (misfit 7 436 m) 0) refl (ap (λ (x : UplinkRead). x .number) (sym e) ∙ f)
-  where
-    go : (b : Bool) → eqb (misfit 7 436 m) 0 ≡ b
-        → cond b (cond (goodUplink (uplinkIn m)) (uplinkAnswer 0 (receptionIn m)) (uplinkAnswer 8 (Steps 0))) (uplinkAnswer (misfit 7 436 m) (Steps 0)) .number ≡ 0 → length m ≡ 436
-    go true p z = fits 7 436 m (eqb-true _ 0 p) .1
-    go false p z = absurd (eqb-false _ 0 p z)
+sized m e f =
+    accepted-as 7 436 uplinkIn goodUplink (λ u. record { number = 0; uplink = u }) uplinkRefused m (λ r. r .number) (λ k. refl) (ap (λ (x : UplinkRead). x .number) (sym e) ∙ f) .0 .1
 
 module _ (u : Uplink) (payload out : List ℕ) where
   pub other-size : (length payload ≡ 432 → ⊥) → WroteUplink u payload out (RefusedWriting 7) out

@@ -6,12 +6,11 @@ use mathlib.Core.Bool.{Bool, cond}
 use mathlib.Core.List.{List}
 use lib.Dec.{eqb}
 use lib.ListN.{length}
-use Rattle.numbers.specs.Lent.{written, stretch}
+use Rattle.numbers.specs.Lent.{written, stretch, Part}
 use Rattle.codec.specs.Reading.{reading}
 use Rattle.codec.specs.declared.Written.{Written}
 use Rattle.codec.specs.declared.Written.the-variants.{Refused as RefusedWriting}
-use Rattle.codec.specs.Writing.{writing, output}
-use Rattle.message_types.specs.declared.Reception.{Reception}
+use Rattle.codec.specs.Writing.{writing, writtenOutput}
 use Rattle.message_types.specs.declared.Reception.the-variants.{Steps}
 use Rattle.message_types.specs.declared.Uplink.{Uplink}
 use Rattle.message_types.specs.declared.UplinkRead.{UplinkRead}
@@ -29,12 +28,12 @@ goodUplink u = goodReception (u .reception)
 abbrev pub uplinkBytes : Uplink → List ℕ → List ℕ
 uplinkBytes u payload = received 7 (u .reception) payload
 
-abbrev pub uplinkAnswer : ℕ → Reception → UplinkRead
-uplinkAnswer k r = record { number = k; uplink = record { reception = r } }
+abbrev pub uplinkRefused : ℕ → UplinkRead
+uplinkRefused k = record { number = k; uplink = record { reception = Steps 0 } }
 
 -- 01's number with the value, and the same as a message of whatever kind
 abbrev pub uplinkRead : List ℕ → UplinkRead
-uplinkRead = reading 7 436 uplinkIn goodUplink (λ u. record { number = 0; uplink = u }) (λ k. uplinkAnswer k (Steps 0))
+uplinkRead = reading 7 436 uplinkIn goodUplink (λ u. record { number = 0; uplink = u }) uplinkRefused
 
 abbrev pub readUplink : List ℕ → Reading
 readUplink = reading 7 436 uplinkIn goodUplink (λ u. Message (kind.Uplink u)) Refused
@@ -49,6 +48,10 @@ payloadSize m = cond (eqb (uplinkRead m .number) 0) 432 0
 abbrev pub payloadOf : List ℕ → List ℕ
 payloadOf m = stretch (payloadStart m) (payloadSize m) m
 
+-- handed on without copying
+abbrev pub PayloadPart : List ℕ → ℕ × ℕ → List ℕ → ℕ × ℕ → Type 0
+PayloadPart m at part place = Part (payloadStart m) (payloadSize m) m at part place
+
 -- 7 unless the payload has 432 bytes; then as every kind
 unfoldable pub writingUplink : Uplink → List ℕ → ℕ → Written
 writingUplink u payload room =
@@ -56,4 +59,4 @@ writingUplink u payload room =
 
 pub record WroteUplink (u : Uplink) (payload out : List ℕ) (answer : Written) (left : List ℕ) : Type 0 where
   pub answers : answer ≡ writingUplink u payload (length out)
-  pub leaves : left ≡ written (output answer (uplinkBytes u payload)) out
+  pub leaves : left ≡ written (writtenOutput answer (uplinkBytes u payload)) out

@@ -3,13 +3,12 @@ ghost use mathlib.Core.Path.{_≡_};
 ghost use mathlib.Core.List.{[], _∷_, _++_};
 ghost use Prim.Native.Nat.{_+_, _≤_};
 ghost use lib.ListN.{length};
-ghost use Rattle.numbers.specs.Lent.{Part};
 ghost use Rattle.codec.specs.Writing.{Wrote};
 ghost use Rattle.passing.specs.Reception.{receptionOf, receptionIn, goodReception, receptionNumber, received};
 ghost use Rattle.message_types.specs.Bytes.{eightAt};
 ghost use Rattle.passing.specs.PassThrough.{eight, basicPassThroughIn, goodBasicPassThrough, basicPassThroughBytes, basicRefused, basicRead};
 ghost use Rattle.passing.specs.PassThrough.{longPassThroughIn, goodLongPassThrough, longPassThroughBytes, longRefused, longRead};
-ghost use Rattle.passing.specs.Uplink.{uplinkAnswer, uplinkRead, payloadStart, payloadSize, WroteUplink};
+ghost use Rattle.passing.specs.Uplink.{uplinkRefused, uplinkRead, PayloadPart, WroteUplink};
 use message_types::BasicPassThrough;
 use message_types::BasicRead;
 use message_types::Bytes8;
@@ -95,19 +94,23 @@ pub fn read_uplink(message: &[u8]) -> UplinkRead
 {
     let misfit = codec::misfit(message, Uplink::ID, Uplink::LENGTH);
     if misfit != 0 {
-        return uplink_answer(misfit, Reception::Steps(0));
+        return uplink_refused(misfit);
     }
     let reception = reception_in(message);
     if is_good_reception(reception) {
-        uplink_answer(0, reception)
+        UplinkRead {
+            number: 0,
+            uplink: Uplink { reception },
+        }
     } else {
-        uplink_answer(8, Reception::Steps(0))
+        uplink_refused(8)
     }
 }
 
-fn uplink_answer(number: u8, reception: Reception) -> UplinkRead
-    ensures { λ r. ⌜ r ≡ uplinkAnswer number reception ⌝ }
+fn uplink_refused(number: u8) -> UplinkRead
+    ensures { λ r. ⌜ r ≡ uplinkRefused number ⌝ }
 {
+    let reception = Reception::Steps(0);
     UplinkRead {
         number,
         uplink: Uplink { reception },
@@ -116,7 +119,7 @@ fn uplink_answer(number: u8, reception: Reception) -> UplinkRead
 
 // An uplink's payload, in the caller's own memory; of any other message an empty part.
 pub fn payload<'a>(message: &'a [u8]) -> &'a [u8]
-    ensures { λ r. ⌜ Part (payloadStart (now (message .entry))) (payloadSize (now (message .entry))) (now (message .entry)) (message .entry .ptr) (now r) (r .ptr) ⌝ }
+    ensures { λ r. ⌜ PayloadPart (now (message .entry)) (message .entry .ptr) (now r) (r .ptr) ⌝ }
 {
     let read = read_uplink(message);
     if read.number != 0 {

@@ -5,7 +5,7 @@ use mathlib.Core.List.{List}
 use Prim.Native.Nat.{ℕ, _<_}
 use native.Mathlib.Omega.{arith}
 use lib.Dec.{eqb}
-use borrow.Author.Tests.{ltb-true}
+use borrow.Author.Tests.{ltb-true, leb-true}
 use Rattle.numbers.proofs.Every.{both}
 use Rattle.c_report.specs.Flat.{trackFrom}
 use Rattle.c_report.proofs.Laws.{tracks}
@@ -56,8 +56,8 @@ written-read id r g =
     let type = both _ _ (address .0) in
     let alert = both _ _ (type .0) in
     let accuracy = both _ _ (alert .0) in
-    let integrity : r .integrity < 16 = omega (arith, ltb-true (r .integrity) 12 (accuracy .0)) in
-    let accurate : r .accuracy < 16 = omega (arith, ltb-true (r .accuracy) 12 (accuracy .1)) in
+    let integrity : r .integrity < 16 = omega (arith, leb-true (r .integrity) 11 (accuracy .0)) in
+    let accurate : r .accuracy < 16 = omega (arith, leb-true (r .accuracy) 11 (accuracy .1)) in
     let i' = upper (r .integrity) (r .accuracy) integrity in
     let codes : codesIn (packed id r (codesOf r)) ≡ codesOf r = codes-back id r (codesOf r) (record {
       latitude-fits = position .1;

@@ -12,7 +12,7 @@ use Rattle.numbers.proofs.Every.{both, chosen, every, at}
 use Rattle.numbers.proofs.Signed.{field-signed, signed-field, field-fits}
 use Rattle.numbers.specs.Signed.{signedIn, fieldOf}
 use Rattle.c_report.specs.Flat.{trackNumber, trackFrom}
-use Rattle.report.specs.Marks.{noneMark, positionOf, isNone, placeOf, altitudeOf, stepsOr, bit, speedOf, knotsOr, climbOf, climbOr}
+use Rattle.report.specs.Marks.{noneMark, positionOf, isNone, placeOf, altitudeOf, stepsOr, asBit, speedOf, knotsOr, climbOf, climbOr}
 use Rattle.report.specs.Reading.{between, isZero, goodPosition}
 use Rattle.message_types.specs.declared.Position.{Position}
 use Rattle.message_types.specs.declared.Position.the-variants.{At, None as no-position}
@@ -100,11 +100,11 @@ kind-fits TrueTrack = omega arith
 kind-fits MagneticHeading = omega arith
 kind-fits TrueHeading = omega arith
 
-pub bit-code : (n : ℕ) → n < 2 → bit (eqb n 1) ≡ n
+pub bit-code : (n : ℕ) → n < 2 → asBit (eqb n 1) ≡ n
 unfolding every
-bit-code n h = eqb-true _ n (at (λ k. eqb (bit (eqb k 1)) k) 2 refl n h)
+bit-code n h = eqb-true _ n (at (λ k. eqb (asBit (eqb k 1)) k) 2 refl n h)
 
-pub bit-back : (b : Bool) → (eqb (bit b) 1 ≡ b) × (bit b < 2)
+pub bit-back : (b : Bool) → (eqb (asBit b) 1 ≡ b) × (asBit b < 2)
 bit-back true = (refl, omega arith)
 bit-back false = (refl, omega arith)
 

@@ -8,7 +8,7 @@ use lib.IntN.{pos, negsuc}
 use lib.ListN.{getD}
 use Rattle.numbers.specs.Signed.{fieldOf}
 use Rattle.c_report.specs.Flat.{trackNumber, trackFrom}
-use Rattle.report.specs.Marks.{positionOf, placeOf, altitudeOf, stepsOr, bit, speedOf, knotsOr, climbOf, climbOr}
+use Rattle.report.specs.Marks.{positionOf, placeOf, altitudeOf, stepsOr, asBit, speedOf, knotsOr, climbOf, climbOr}
 use Rattle.message_types.specs.Bytes.{eightAt}
 use Rattle.report.specs.declared.Codes.{Codes}
 use Rattle.message_types.specs.declared.Ownship.{Ownship}
@@ -77,8 +77,8 @@ codesOf r = record {
   longitude = fieldOf 0x800000 (placeOf (r .position) .longitude);
   altitude = stepsOr (r .altitude) 0xFFF;
   kind = trackNumber (r .«track_kind»);
-  extrapolated = bit (r .extrapolated);
-  airborne = bit (r .airborne);
+  extrapolated = asBit (r .extrapolated);
+  airborne = asBit (r .airborne);
   speed = knotsOr (r .speed) 0xFFE 0xFFF;
   climb = fieldOf 0x800 (climbOr (r .climb) (pos 510) (negsuc 509) (negsuc 2047));
 }

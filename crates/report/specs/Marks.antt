@@ -39,8 +39,8 @@ abbrev pub stepsOr : Altitude → ℕ → ℕ
 stepsOr (Known d) none = d .steps
 stepsOr no-altitude none = none
 
-abbrev pub bit : Bool → ℕ
-bit b = cond b 1 0
+abbrev pub asBit : Bool → ℕ
+asBit b = cond b 1 0
 
 unfoldable pub speedOf : ℕ → Speed
 speedOf h = cond (eqb h 0xFFF) no-speed (cond (eqb h 0xFFE) Over (Knots h))

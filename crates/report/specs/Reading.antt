@@ -3,7 +3,7 @@
 use Prim.Native.Nat.{ℕ}
 use mathlib.Core.Bool.{Bool, false, Bool·beq, cond, _&&_}
 use mathlib.Core.List.{List}
-use lib.Dec.{eqb, ltb}
+use lib.Dec.{eqb, ltb, leb}
 use lib.IntN.{ℤ, pos, negsuc}
 use lib.Signed.{leZ}
 use Rattle.codec.specs.Reading.{reading}
@@ -24,18 +24,37 @@ between low high z = leZ low z && leZ z high
 abbrev pub isZero : ℤ → Bool
 isZero = between (pos 0) (pos 0)
 
--- within its range (`negsuc k` is -(k + 1)), and none exactly if latitude, longitude and integrity are all 0
+-- the ranges of 01 (`negsuc k` is -(k + 1)): latitude from pole to pole, climb both ways, integrity and accuracy
+abbrev pub southPole : ℤ
+southPole = negsuc 4194303
+
+abbrev pub northPole : ℤ
+northPole = pos 4194304
+
+abbrev pub lowestClimb : ℤ
+lowestClimb = negsuc 508
+
+abbrev pub highestClimb : ℤ
+highestClimb = pos 509
+
+abbrev pub lastIntegrity : ℕ
+lastIntegrity = 11
+
+abbrev pub lastAccuracy : ℕ
+lastAccuracy = 11
+
+-- within its range, and none exactly if latitude, longitude and integrity are all 0
 unfoldable pub goodPosition : Position → ℕ → Bool
 goodPosition p integrity =
-    between (negsuc 4194303) (pos 4194304) (placeOf p .latitude)
+    between southPole northPole (placeOf p .latitude)
     && between (negsuc 8388607) (pos 8388607) (placeOf p .longitude)
     && Bool·beq (isNone p) (isZero (placeOf p .latitude) && isZero (placeOf p .longitude) && eqb integrity 0)
 
 -- the fields that are plain numbers
 abbrev pub withinBits : Report → Bool
 withinBits r =
-    ltb (r .integrity) 12
-    && ltb (r .accuracy) 12
+    leb (r .integrity) lastIntegrity
+    && leb (r .accuracy) lastAccuracy
     && ltb (r .alert) 16
     && ltb (r .«address_type») 16
     && ltb (r .address) 0x1000000
@@ -48,7 +67,7 @@ goodReport r =
     goodPosition (r .position) (r .integrity)
     && ltb (stepsOr (r .altitude) 0) 0xFFF
     && ltb (knotsOr (r .speed) 0 0) 0xFFE
-    && between (negsuc 508) (pos 509) (climbOr (r .climb) (pos 0) (pos 0) (pos 0))
+    && between lowestClimb highestClimb (climbOr (r .climb) (pos 0) (pos 0) (pos 0))
     && withinBits r
 
 abbrev pub reportAccepted : Report → FlatReportRead

@@ -4,7 +4,7 @@ ghost use Prim.Native.Nat.{_+_, _-_, _<_, _≤_};
 ghost use lib.ListN.{length};
 ghost use Rattle.codec.specs.Writing.{Wrote};
 ghost use Rattle.numbers.specs.Signed.{signedIn, fieldOf};
-ghost use Rattle.report.specs.Marks.{stepsOr, knotsOr, climbOr, placeOf, isNone, noneMark, bit, altitudeOf, speedOf, climbOf, positionOf};
+ghost use Rattle.report.specs.Marks.{stepsOr, knotsOr, climbOr, placeOf, isNone, noneMark, asBit, altitudeOf, speedOf, climbOf, positionOf};
 ghost use Rattle.message_types.specs.Bytes.{eightAt};
 ghost use Rattle.report.specs.Bytes.{three, threeAt, twelveHigh, highAt, twelveLow, lowAt, codesIn, codesOf, reportIn, packed, reportBytes, ownshipBytes, trafficBytes};
 ghost use Rattle.report.specs.Reading.{between, goodPosition, withinBits, goodReport, reportAccepted, reportRefused, reportHeld, ownshipRead, trafficRead};
@@ -20,6 +20,19 @@ use message_types::Report;
 use message_types::Speed;
 use message_types::Traffic;
 use units::PressureSteps;
+
+// The ranges of 01: latitude from pole to pole, climb both ways, integrity and accuracy.
+const SOUTH_POLE: i32 = -4194304;
+
+const NORTH_POLE: i32 = 4194304;
+
+const LOWEST_CLIMB: i32 = -509;
+
+const HIGHEST_CLIMB: i32 = 509;
+
+const LAST_INTEGRITY: u8 = 11;
+
+const LAST_ACCURACY: u8 = 11;
 
 pub fn read_ownship(message: &[u8]) -> FlatReportRead
     ensures { λ r. ⌜ r ≡ ownshipRead (now (message .entry)) ⌝ }
@@ -128,15 +141,15 @@ fn is_good_report(report: Report) -> bool
     is_good_position(position, report.integrity)
         & (steps_or(altitude, 0) < 0xFFF)
         & (knots_or(speed, 0, 0) < 0xFFE)
-        & is_between(climb_or(climb, 0, 0, 0), -509, 509)
+        & is_between(climb_or(climb, 0, 0, 0), LOWEST_CLIMB, HIGHEST_CLIMB)
         & is_within_bits(report)
 }
 
 fn is_within_bits(report: Report) -> bool
     ensures { λ r. ⌜ r ≡ withinBits report ⌝ }
 {
-    (report.integrity < 12)
-        & (report.accuracy < 12)
+    (report.integrity <= LAST_INTEGRITY)
+        & (report.accuracy <= LAST_ACCURACY)
         & (report.alert < 16)
         & (report.address_type < 16)
         & (report.address < 0x1000000)
@@ -150,7 +163,7 @@ fn is_good_position(position: Position, integrity: u8) -> bool
 {
     let at = place_of(position);
     let none = is_between(at.latitude, 0, 0) & is_between(at.longitude, 0, 0) & (integrity == 0);
-    is_between(at.latitude, -4194304, 4194304)
+    is_between(at.latitude, SOUTH_POLE, NORTH_POLE)
         & is_between(at.longitude, -8388608, 8388607)
         & (is_none(position) == none)
 }
@@ -406,7 +419,7 @@ fn steps_or(altitude: Altitude, none: u16) -> u16
 }
 
 fn bit_of(b: bool) -> u8
-    ensures { λ r. ⌜ r ≡ bit b ⌝ }
+    ensures { λ r. ⌜ r ≡ asBit b ⌝ }
 {
     if b { 1 } else { 0 }
 }

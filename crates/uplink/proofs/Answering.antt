@@ -5,21 +5,21 @@ use mathlib.Core.Bool.{cond}
 use Prim.Native.Nat.{ℕ}
 use lib.Dec.{ltb}
 use Rattle.uplink.specs.declared.Frame.{Frame}
-use Rattle.uplink.specs.declared.Listing.the-variants as list
+use Rattle.uplink.specs.declared.FrameList.the-variants as list
 use Rattle.uplink.specs.declared.Found.the-variants as nth
 use Rattle.uplink.specs.declared.Walked.{Walked}
 use Rattle.uplink.specs.declared.Walked.the-variants.{Listed, Refused}
 use Rattle.uplink.specs.Walk.{Frames, listed, refused}
-use Rattle.uplink.specs.Answers.{counted, numbered, scanned}
+use Rattle.uplink.specs.Answers.{frameList, nthFrame, scanned}
 
 module _ (n : ℕ) {k e : ℕ} {f : Frame} {r : Walked} where
-  pub count-is : (L : Frames) → r ≡ Listed k e f → r ≡ scanned n L → list.Frames k e ≡ counted L
-  unfolding scanned counted
+  pub count-is : (L : Frames) → r ≡ Listed k e f → r ≡ scanned n L → list.Frames k e ≡ frameList L
+  unfolding scanned frameList
   count-is (listed fs end) g h = cc
   count-is (refused x) g h = cc
 
-  pub found-is : (L : Frames) → r ≡ Listed k e f → r ≡ scanned n L → cond (ltb n k) (nth.Frame f) (nth.Refused 13) ≡ numbered L n
-  unfolding scanned numbered
+  pub found-is : (L : Frames) → r ≡ Listed k e f → r ≡ scanned n L → cond (ltb n k) (nth.Frame f) (nth.Refused 13) ≡ nthFrame L n
+  unfolding scanned nthFrame
   found-is (listed fs end) g h = cc
   found-is (refused x) g h = cc
 

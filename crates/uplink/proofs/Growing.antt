@@ -9,7 +9,7 @@ use lib.Seq.{take-add, drop-at, length-take-le, drop-append-seam, drop-append-le
 use borrow.Author.Tests.{eq-eqb}
 use Rattle.uplink.specs.declared.Frame.{Frame}
 use Rattle.uplink.specs.Frames.{lengthIn, headed, frameBytes, withValidBit}
-use Rattle.uplink.specs.Walk.{Frames, listed, refused, before, walk, validBit, listing}
+use Rattle.uplink.specs.Walk.{Frames, listed, refused, framesBefore, walk, validBit, payloadFrames}
 use Rattle.uplink.specs.Answers.{dataIn}
 use Rattle.uplink.specs.Adding.{withFrame}
 use Rattle.uplink.specs.Claims.{newFrame}
@@ -17,7 +17,7 @@ use Rattle.uplink.proofs.Walking.{before-none, before-both, before-end,
 
 -- the bytes up to a list's end, followed by others, list its frames and then those of the others
 Grows : ℕ → List ℕ → Frames → Type 0
-Grows at xs (listed fs end) = (at ≤ end) × ((ys : List ℕ) → walk at 0 (take (end - at) xs ++ ys) ≡ before fs (walk end 0 ys))
+Grows at xs (listed fs end) = (at ≤ end) × ((ys : List ℕ) → walk at 0 (take (end - at) xs ++ ys) ≡ framesBefore fs (walk end 0 ys))
 Grows at xs (refused k) = Unit {0}
 
 grows-none : (at : ℕ) (xs : List ℕ) → Grows at xs (listed [] at)
@@ -27,11 +27,11 @@ grows-none at xs =
     (omega arith, λ ys. rw e (sym (before-none (walk at 0 ys))))
 
 grows : (at : ℕ) (xs : List ℕ) → Grows at xs (walk at 0 xs)
-unfolding Grows before
+unfolding Grows framesBefore
 grows = every-walk Grows grows-none (λ at xs k. tt) front
   where
     front : (at a b : ℕ) (xs : List ℕ) (w : Frames) → 0 < lengthIn a b → lengthIn a b ≤ length xs → lengthIn a b ≤ 422
-        → Grows (at + (lengthIn a b + 2)) (drop (lengthIn a b) xs) w → Grows at (a ∷ b ∷ xs) (before (headed at a b ∷ []) w)
+        → Grows (at + (lengthIn a b + 2)) (drop (lengthIn a b) xs) w → Grows at (a ∷ b ∷ xs) (framesBefore (headed at a b ∷ []) w)
     front at a b xs (refused k) z l m g = tt
     front at a b xs (listed fs end) z l m g =
         let n = lengthIn a b in
@@ -47,7 +47,7 @@ grows = every-walk Grows grows-none (λ at xs k. tt) front
         )
 
 -- a payload's list, with other bytes behind it
-continued : (p : List ℕ) {fs : List Frame} {end : ℕ} → listing p ≡ listed fs end → (ys : List ℕ) → walk 0 0 (take end (drop 8 p) ++ ys) ≡ before fs (walk end 0 ys)
+continued : (p : List ℕ) {fs : List Frame} {end : ℕ} → payloadFrames p ≡ listed fs end → (ys : List ℕ) → walk 0 0 (take end (drop 8 p) ++ ys) ≡ framesBefore fs (walk end 0 ys)
 unfolding Grows
 continued p {fs} {end} is ys =
     let g : Grows 0 (drop 8 p) (listed fs end) =
@@ -62,7 +62,7 @@ zeros at (suc (suc k)) = ended at 0 0 (replicate k 0) (headed at 0 0) refl refl
 
 -- the bytes of a frame, and others behind them
 new-frame : (end kind : ℕ) (xs zs : List ℕ) → kind ≤ 15 → 1 ≤ length xs → length xs ≤ 422
-    → walk end 0 (frameBytes kind xs ++ zs) ≡ before (newFrame end kind xs ∷ []) (walk (end + (length xs + 2)) 0 zs)
+    → walk end 0 (frameBytes kind xs ++ zs) ≡ framesBefore (newFrame end kind xs ∷ []) (walk (end + (length xs + 2)) 0 zs)
 unfolding frameBytes
 new-frame end kind xs zs small some most =
     let b = length xs % 2 * 128 + kind in
@@ -107,9 +107,9 @@ module _ (p : List ℕ) (end kind : ℕ) (xs : List ℕ) (size : length p ≡ 43
       rw (drop-append-le 8 front back (omega (arith, front-size)), e, take-add, drop-at (take 8 valid) (take end (drop 8 valid)) 8 (length-take-le 8 valid (simp length-set (omega arith))), drop-set-lt 8 p 6 (withValidBit (getD p 6 0)) (omega arith))
 
   -- the list of the payload with the frame: the old one, and the new frame at its end
-  pub grown : (fs : List Frame) → listing p ≡ listed fs end → kind ≤ 15 → 1 ≤ length xs → length xs ≤ 422
-      → listing (withFrame p end kind xs) ≡ listed (fs ++ (newFrame end kind xs ∷ [])) (end + (length xs + 2))
-  unfolding listing
+  pub grown : (fs : List Frame) → payloadFrames p ≡ listed fs end → kind ≤ 15 → 1 ≤ length xs → length xs ≤ 422
+      → payloadFrames (withFrame p end kind xs) ≡ listed (fs ++ (newFrame end kind xs ∷ [])) (end + (length xs + 2))
+  unfolding payloadFrames
   grown fs is small some most =
       rw (q-is, eq-eqb (length (front ++ back)) 432 q-size, eq-eqb (validBit (front ++ back)) 1 q-valid, q-data)
       (continued p is back

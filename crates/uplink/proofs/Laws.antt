@@ -10,8 +10,8 @@ use lib.ListN.{length}
 use borrow.Author.Tests.{ltb-false}
 use Rattle.uplink.specs.declared.Frame.{Frame}
 use Rattle.uplink.specs.declared.Added.the-variants.{Done, Refused}
-use Rattle.uplink.specs.Walk.{listed, before, walk, listing}
-use Rattle.uplink.specs.Answers.{counted}
+use Rattle.uplink.specs.Walk.{listed, framesBefore, walk, payloadFrames}
+use Rattle.uplink.specs.Answers.{frameList}
 use Rattle.uplink.specs.Adding.{isGood, adding, withFrame}
 use Rattle.uplink.specs.Claims.{Fixed, Content, contentOf, contents, newFrame, AddedListed, AllAdded, nothing, also, AllAddedListed}
 use Rattle.uplink.specs.Samples.{bytesOf, rows, graphical1, graphical2, textual, Samples}
@@ -20,7 +20,7 @@ use Rattle.uplink.proofs.Putting.{good}
 use Rattle.uplink.proofs.Growing.{grown, old-data, new-data}
 
 pub fixed : Fixed
-unfolding listing
+unfolding payloadFrames
 fixed p q n v d = rw (n, v, d)
 
 -- what an accepted frame has met
@@ -52,12 +52,12 @@ added-listed p q kind xs fs end is a =
     let h = met fs end kind (length xs) (rw is at (a .answers)) in
     let g = good kind (length xs) (h .0) in
     let w : q ≡ withFrame p end kind xs = rw is at (a .leaves) in
-    let l : listing q ≡ listed (fs ++ (newFrame end kind xs ∷ [])) (end + (length xs + 2)) = rw w (grown p end kind xs (s .0) (h .1) fs is (g .0) (g .1) (g .2)) in (
+    let l : payloadFrames q ≡ listed (fs ++ (newFrame end kind xs ∷ [])) (end + (length xs + 2)) = rw w (grown p end kind xs (s .0) (h .1) fs is (g .0) (g .1) (g .2)) in (
       l,
       rw (l, is, map-one, w, new-data p end kind xs (s .0) (h .1), alike (contentOf (withFrame p end kind xs)) (contentOf p) end (λ f i. rw (old-data p end kind xs (s .0) (h .1) f i)) 0 fs (s .1)),
     )
 
-added : (p q : List ℕ) (cs : List Content) → AllAdded p cs q → (fs : List Frame) (end : ℕ) → listing p ≡ listed fs end → contents q ≡ contents p ++ cs
+added : (p q : List ℕ) (cs : List Content) → AllAdded p cs q → (fs : List Frame) (end : ℕ) → payloadFrames p ≡ listed fs end → contents q ≡ contents p ++ cs
 added p q cs nothing fs end is = rw append-nil
 added p r cs (also a b) fs end is =
     let l = added-listed p _ _ _ fs end is a in
@@ -68,5 +68,5 @@ unfolding contents
 all-added-listed p q cs end is a = added p q cs a [] end is ∙ rw is
 
 pub samples : Samples
-unfolding counted listing walk before bytesOf rows graphical1 graphical2 textual
+unfolding frameList payloadFrames walk framesBefore bytesOf rows graphical1 graphical2 textual
 samples = (refl, refl, refl, refl, refl, refl)

@@ -13,7 +13,7 @@ use Rattle.numbers.proofs.Every.{both}
 use Rattle.uplink.specs.declared.Frame.{Frame}
 use Rattle.uplink.specs.declared.Added.the-variants.{Done, Refused}
 use Rattle.uplink.specs.Frames.{frameBytes, withValidBit}
-use Rattle.uplink.specs.Walk.{listed, refused, listing}
+use Rattle.uplink.specs.Walk.{listed, refused, payloadFrames}
 use Rattle.uplink.specs.Adding.{isGood, adding, withFrame, Adds}
 
 module _ (p : List ℕ) (end kind : ℕ) (xs : List ℕ) where
@@ -40,11 +40,11 @@ good kind n h =
     (leb-true kind 15 (k .0), leb-true 1 n (k .1), leb-true n 422 (l .1))
 
 module _ (p : List ℕ) (kind : ℕ) (xs : List ℕ) where
-  pub add-refused : (k : ℕ) → listing p ≡ refused k → Adds p kind xs (Refused k) p
+  pub add-refused : (k : ℕ) → payloadFrames p ≡ refused k → Adds p kind xs (Refused k) p
   unfolding adding
   add-refused k e = record { answers = rw e; leaves = refl }
 
-  module _ (fs : List Frame) (end : ℕ) (e : listing p ≡ listed fs end) where
+  module _ (fs : List Frame) (end : ℕ) (e : payloadFrames p ≡ listed fs end) where
     pub add-bad : isGood kind (length xs) ≡ false → Adds p kind xs (Refused 8) p
     unfolding adding
     add-bad g = record { answers = rw (e, g); leaves = refl }

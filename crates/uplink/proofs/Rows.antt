@@ -11,11 +11,11 @@ use lib.Seq.{length-take-le}
 use borrow.Author.Tests.{ltb-true}
 use Rattle.uplink.specs.declared.Frame.{Frame}
 use Rattle.uplink.specs.declared.Found.the-variants as nth
-use Rattle.uplink.specs.declared.Listing.{Listing}
-use Rattle.uplink.specs.declared.Listing.the-variants as list
+use Rattle.uplink.specs.declared.FrameList.{FrameList}
+use Rattle.uplink.specs.declared.FrameList.the-variants as list
 use Rattle.uplink.specs.Frames.{lengthIn, headed}
-use Rattle.uplink.specs.Walk.{Frames, listed, refused, before, walk, listing}
-use Rattle.uplink.specs.Answers.{counted, numbered, dataIn, none}
+use Rattle.uplink.specs.Walk.{Frames, listed, refused, framesBefore, walk, payloadFrames}
+use Rattle.uplink.specs.Answers.{frameList, nthFrame, dataIn, none}
 use Rattle.uplink.specs.Adding.{endOf}
 use Rattle.uplink.specs.Claims.{framesIn, AtMost141, Inside, Apart}
 use Rattle.uplink.proofs.Walking.{every-walk, every-listing}
@@ -31,11 +31,11 @@ Within at xs (listed fs end) = InRow at fs end × (end ≤ at + length xs)
 Within at xs (refused k) = Unit {0}
 
 within : (at : ℕ) (xs : List ℕ) → Within at xs (walk at 0 xs)
-unfolding Within InRow before
+unfolding Within InRow framesBefore
 within = every-walk Within (λ at xs. (refl, omega arith)) (λ at xs k. tt) (λ at a b xs w z l m ih. front at a b xs w z l ih)
   where
     front : (at a b : ℕ) (xs : List ℕ) (w : Frames) → 0 < lengthIn a b → lengthIn a b ≤ length xs
-        → Within (at + (lengthIn a b + 2)) (drop (lengthIn a b) xs) w → Within at (a ∷ b ∷ xs) (before (headed at a b ∷ []) w)
+        → Within (at + (lengthIn a b + 2)) (drop (lengthIn a b) xs) w → Within at (a ∷ b ∷ xs) (framesBefore (headed at a b ∷ []) w)
     front at a b xs (listed fs end) z l ih = ((refl, z, ih .0), omega (arith, ih .1, length-drop (lengthIn a b) xs))
     front at a b xs (refused k) z l ih = tt
 
@@ -43,7 +43,7 @@ Sound : List ℕ → Frames → Type 0
 Sound p (listed fs end) = (length p ≡ 432) × InRow 0 fs end × (end ≤ 424)
 Sound p (refused k) = Unit {0}
 
-sound : (p : List ℕ) → Sound p (listing p)
+sound : (p : List ℕ) → Sound p (payloadFrames p)
 unfolding Sound InRow Within
 sound p = every-listing p (Sound p) (λ h. inside h (walk 0 0 (drop 8 p)) (within 0 (drop 8 p))) (λ h. (h, refl, omega arith)) tt
   where
@@ -52,7 +52,7 @@ sound p = every-listing p (Sound p) (λ h. inside h (walk 0 0 (drop 8 p)) (withi
     inside h (refused k) r = tt
 
 -- a payload that lists frames has 432 bytes, and its frames are in a row within 424
-pub in-row : (p : List ℕ) {fs : List Frame} {end : ℕ} → listing p ≡ listed fs end → (length p ≡ 432) × InRow 0 fs end × (end ≤ 424)
+pub in-row : (p : List ℕ) {fs : List Frame} {end : ℕ} → payloadFrames p ≡ listed fs end → (length p ≡ 432) × InRow 0 fs end × (end ≤ 424)
 unfolding Sound
 in-row p e = subst (Sound p) e (sound p)
 
@@ -79,9 +79,9 @@ row-apart at (f ∷ fs) end zero (suc j) r l h = omega (arith, r .0, row-at (at 
 row-apart at (f ∷ fs) end (suc i) (suc j) r l h = row-apart (at + (f .length + 2)) fs end i j (r .2) (omega arith) (omega arith)
 
 -- the frame of a number that is answered
-found : (L : Frames) (n : ℕ) (f : Frame) → numbered L n ≡ nth.Frame f
+found : (L : Frames) (n : ℕ) (f : Frame) → nthFrame L n ≡ nth.Frame f
     → (L ≡ listed (framesIn L) (endOf L)) × (n < length (framesIn L)) × (f ≡ getD (framesIn L) n none)
-unfolding numbered
+unfolding nthFrame
 found (listed fs end) n f = go (ltb n (length fs)) refl
   where
     go : (t : Bool) → ltb n (length fs) ≡ t → cond t (nth.Frame (getD fs n none)) (nth.Refused 13) ≡ nth.Frame f
@@ -93,7 +93,7 @@ found (refused k) n f = λ h. absurd (let z : _≡_ {A = ℕ} 0 1 = cc in omega 
 pub inside : Inside
 unfolding dataIn
 inside p n f h =
-    let a = found (listing p) n f h in
+    let a = found (payloadFrames p) n f h in
     let s = in-row p (a .0) in
     let r = row-at 0 _ _ n (s .1) (a .1) in
     let l : f .at + (f .length + 2) ≤ 424 = rw (a .2) (omega (arith, r .1, s .2)) in
@@ -101,30 +101,30 @@ inside p n f h =
 
 pub apart : Apart
 apart p i j f g l x y =
-    let a = found (listing p) i f x in
-    let b = found (listing p) j g y in
+    let a = found (payloadFrames p) i f x in
+    let b = found (payloadFrames p) j g y in
     rw (a .2, b .2) (row-apart 0 _ _ i j (in-row p (a .0) .1) l (b .1))
 
-counts : (L : Frames) {n end : ℕ} {r : Listing} → r ≡ list.Frames n end → r ≡ counted L → (L ≡ listed (framesIn L) end) × (length (framesIn L) ≡ n)
-unfolding counted
+counts : (L : Frames) {n end : ℕ} {r : FrameList} → r ≡ list.Frames n end → r ≡ frameList L → (L ≡ listed (framesIn L) end) × (length (framesIn L) ≡ n)
+unfolding frameList
 counts (listed fs end) g h = (cc, cc)
 counts (refused k) g h = (cc, cc)
 
-pub refused-is : (L : Frames) {k : ℕ} {r : Listing} → r ≡ list.Refused k → r ≡ counted L → L ≡ refused k
-unfolding counted
+pub refused-is : (L : Frames) {k : ℕ} {r : FrameList} → r ≡ list.Refused k → r ≡ frameList L → L ≡ refused k
+unfolding frameList
 refused-is (listed fs end) g h = cc
 refused-is (refused k) g h = cc
 
 -- what a count says of the payload
 pub record Counted (p : List ℕ) (n end : ℕ) : Type 0 where
-  pub list : listing p ≡ listed (framesIn (listing p)) end
+  pub list : payloadFrames p ≡ listed (framesIn (payloadFrames p)) end
   pub size : length p ≡ 432
   pub inside : end ≤ 424
   pub few : n * 3 ≤ end
 
-pub counted-is : (p : List ℕ) {n end : ℕ} {r : Listing} → r ≡ list.Frames n end → r ≡ counted (listing p) → Counted p n end
+pub counted-is : (p : List ℕ) {n end : ℕ} {r : FrameList} → r ≡ list.Frames n end → r ≡ frameList (payloadFrames p) → Counted p n end
 counted-is p {end = end} g h =
-    let c = counts (listing p) g h in
+    let c = counts (payloadFrames p) g h in
     let s = in-row p (c .0) in
     record { list = c .0; size = s .0; inside = s .2; few = omega (arith, row-le 0 _ end (s .1), c .1) }
 

@@ -12,7 +12,7 @@ use borrow.Author.Tests.{eq-eqb, ne-eqb}
 use Rattle.uplink.specs.declared.Frame.{Frame}
 use Rattle.uplink.specs.declared.Walked.the-variants.{Listed, Refused}
 use Rattle.uplink.specs.Frames.{headed}
-use Rattle.uplink.specs.Walk.{listed, refused, before, walk, validBit, listing}
+use Rattle.uplink.specs.Walk.{listed, refused, framesBefore, walk, validBit, payloadFrames}
 use Rattle.uplink.specs.Answers.{scanned, none}
 use Rattle.uplink.proofs.Walking.{before-none, before-both, before-end, short, ended, past, long, more}
 
@@ -24,12 +24,12 @@ one-more (g ∷ fs) f zero = rw eqb·suc-zero
 one-more (g ∷ fs) f (suc n) = rw eqb·suc-suc (one-more fs f n)
 
 module _ (p : List ℕ) (n : ℕ) where
-  pub not-432 : (length p ≡ 432 → ⊥) → Refused 7 ≡ scanned n (listing p)
-  unfolding scanned listing
+  pub not-432 : (length p ≡ 432 → ⊥) → Refused 7 ≡ scanned n (payloadFrames p)
+  unfolding scanned payloadFrames
   not-432 h = rw (ne-eqb (length p) 432 h)
 
-  pub not-valid : (f : Frame) → f ≡ headed 0 0 0 → length p ≡ 432 → (validBit p ≡ 1 → ⊥) → Listed 0 0 f ≡ scanned n (listing p)
-  unfolding scanned listing
+  pub not-valid : (f : Frame) → f ≡ headed 0 0 0 → length p ≡ 432 → (validBit p ≡ 1 → ⊥) → Listed 0 0 f ≡ scanned n (payloadFrames p)
+  unfolding scanned payloadFrames
   not-valid f e h v = rw (e, eq-eqb (length p) 432 h, ne-eqb (validBit p) 1 v)
 
   -- the walk has reached byte `at`: the list is that of the frames behind it and then those of the rest
@@ -40,10 +40,10 @@ module _ (p : List ℕ) (n : ℕ) where
     pub behind : List Frame
     pub counts : count ≡ length behind
     pub keeps : frame ≡ getD behind n none
-    pub rest : listing p ≡ before behind (walk at 0 (drop (at + 8) p))
+    pub rest : payloadFrames p ≡ framesBefore behind (walk at 0 (drop (at + 8) p))
 
   pub start : (f : Frame) → f ≡ headed 0 0 0 → length p ≡ 432 → validBit p ≡ 1 → Reached 0 0 f
-  unfolding listing
+  unfolding payloadFrames
   start f e h v = record {
     size = h;
     room = omega arith;
@@ -55,15 +55,15 @@ module _ (p : List ℕ) (n : ℕ) where
   }
 
   module _ {at count : ℕ} {frame : Frame} (c : Reached at count frame) where
-    pub stops : walk at 0 (drop (at + 8) p) ≡ listed [] at → Listed count at frame ≡ scanned n (listing p)
+    pub stops : walk at 0 (drop (at + 8) p) ≡ listed [] at → Listed count at frame ≡ scanned n (payloadFrames p)
     unfolding scanned
     stops e = rw (c .rest, e, before-end, c .counts, c .keeps)
 
-    pub refuses : (k : ℕ) → walk at 0 (drop (at + 8) p) ≡ refused k → Refused k ≡ scanned n (listing p)
-    unfolding scanned before
+    pub refuses : (k : ℕ) → walk at 0 (drop (at + 8) p) ≡ refused k → Refused k ≡ scanned n (payloadFrames p)
+    unfolding scanned framesBefore
     refuses k e = rw (c .rest, e)
 
-    pub at-the-end : 423 ≤ at → Listed count at frame ≡ scanned n (listing p)
+    pub at-the-end : 423 ≤ at → Listed count at frame ≡ scanned n (payloadFrames p)
     at-the-end h = stops (short at _ (omega (arith, length-drop (at + 8) p)))
 
     module _ (room : at < 423) where
@@ -77,20 +77,20 @@ module _ (p : List ℕ) (n : ℕ) where
       left = omega (arith, length-drop (at + 10) p, c .size)
 
       module _ (f : Frame) (is : f ≡ headed at (getD p (at + 8) 0) (getD p (at + 9) 0)) where
-        pub at-end : f .length ≡ 0 → Listed count at frame ≡ scanned n (listing p)
+        pub at-end : f .length ≡ 0 → Listed count at frame ≡ scanned n (payloadFrames p)
         at-end z = stops (rw two (ended at _ _ _ f is z))
 
-        pub runs-past : (f .length ≡ 0 → ⊥) → 422 - at < f .length → Refused 11 ≡ scanned n (listing p)
+        pub runs-past : (f .length ≡ 0 → ⊥) → 422 - at < f .length → Refused 11 ≡ scanned n (payloadFrames p)
         runs-past z l = refuses 11 (rw two (past at _ _ _ f is z (omega (arith, left))))
 
-        pub too-long : f .length ≤ 422 - at → 422 < f .length → Refused 12 ≡ scanned n (listing p)
+        pub too-long : f .length ≤ 422 - at → 422 < f .length → Refused 12 ≡ scanned n (payloadFrames p)
         too-long l m = refuses 12 (rw two (long at _ _ _ f is (omega (arith, left)) m))
 
         pub goes-on : (f .length ≡ 0 → ⊥) → f .length ≤ 422 - at → f .length ≤ 422 → (g : Frame) → g ≡ cond (eqb count n) f frame
             → Reached (at + (f .length + 2)) (count + 1) g
         goes-on z l m g k =
             let e : at + 10 + f .length ≡ at + (f .length + 2) + 8 = omega arith in
-            let w : walk at 0 (drop (at + 8) p) ≡ before (f ∷ []) (walk (at + (f .length + 2)) 0 (drop (at + (f .length + 2) + 8) p)) =
+            let w : walk at 0 (drop (at + 8) p) ≡ framesBefore (f ∷ []) (walk (at + (f .length + 2)) 0 (drop (at + (f .length + 2) + 8) p)) =
             rw two (more at _ _ _ f is z (omega (arith, left)) m ∙ rw (drop-drop, e)) in
             record {
               size = c .size;
@@ -99,5 +99,5 @@ module _ (p : List ℕ) (n : ℕ) where
               behind = c .behind ++ (f ∷ []);
               counts = omega (arith, c .counts, length-append (c .behind) (f ∷ []));
               keeps = k ∙ rw (c .counts, c .keeps) (sym (one-more (c .behind) f n));
-              rest = c .rest ∙ ap (before (c .behind)) w ∙ before-both (c .behind) (f ∷ []) _;
+              rest = c .rest ∙ ap (framesBefore (c .behind)) w ∙ before-both (c .behind) (f ∷ []) _;
             }

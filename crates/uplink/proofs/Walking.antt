@@ -11,20 +11,20 @@ use lib.ListN.{length, drop}
 use borrow.Author.Tests.{eq-eqb, ne-eqb, lt-ltb, le-ltb, eqb-true, eqb-false, ltb-false}
 use Rattle.uplink.specs.declared.Frame.{Frame}
 use Rattle.uplink.specs.Frames.{lengthIn, headed}
-use Rattle.uplink.specs.Walk.{Frames, listed, refused, before, walk, validBit, listing}
+use Rattle.uplink.specs.Walk.{Frames, listed, refused, framesBefore, walk, validBit, payloadFrames}
 
-pub before-none : (w : Frames) → before [] w ≡ w
-unfolding before
+pub before-none : (w : Frames) → framesBefore [] w ≡ w
+unfolding framesBefore
 before-none (listed fs end) = refl
 before-none (refused k) = refl
 
-pub before-both : (fs gs : List Frame) (w : Frames) → before fs (before gs w) ≡ before (fs ++ gs) w
-unfolding before
+pub before-both : (fs gs : List Frame) (w : Frames) → framesBefore fs (framesBefore gs w) ≡ framesBefore (fs ++ gs) w
+unfolding framesBefore
 before-both fs gs (listed hs end) = ap (λ (l : List Frame). listed l end) (simp append-assoc)
 before-both fs gs (refused k) = refl
 
-pub before-end : (fs : List Frame) (end : ℕ) → before fs (listed [] end) ≡ listed fs end
-unfolding before
+pub before-end : (fs : List Frame) (end : ℕ) → framesBefore fs (listed [] end) ≡ listed fs end
+unfolding framesBefore
 before-end fs end = rw append-nil
 
 -- the data of a frame are passed over
@@ -59,7 +59,7 @@ module _ (at a b : ℕ) (xs : List ℕ) (f : Frame) (is : f ≡ headed at a b) w
   long l m = rw (size, ne-eqb (f .length) 0 (λ e. omega arith), le-ltb (length xs) (f .length) l, lt-ltb 422 (f .length) m)
 
   pub more : (f .length ≡ 0 → ⊥) → f .length ≤ length xs → f .length ≤ 422
-      → walk at 0 (a ∷ b ∷ xs) ≡ before (f ∷ []) (walk (at + (f .length + 2)) 0 (drop (f .length) xs))
+      → walk at 0 (a ∷ b ∷ xs) ≡ framesBefore (f ∷ []) (walk (at + (f .length + 2)) 0 (drop (f .length) xs))
   unfolding walk
   more z l m =
       let e : suc (suc at) + f .length ≡ at + (f .length + 2) = omega arith in
@@ -70,7 +70,7 @@ module _ (P : ℕ → List ℕ → Frames → Type 0)
     (end : (at : ℕ) (xs : List ℕ) → P at xs (listed [] at))
     (refuse : (at : ℕ) (xs : List ℕ) (k : ℕ) → P at xs (refused k))
     (front : (at a b : ℕ) (xs : List ℕ) (w : Frames) → 0 < lengthIn a b → lengthIn a b ≤ length xs → lengthIn a b ≤ 422
-    → P (at + (lengthIn a b + 2)) (drop (lengthIn a b) xs) w → P at (a ∷ b ∷ xs) (before (headed at a b ∷ []) w)) where
+    → P (at + (lengthIn a b + 2)) (drop (lengthIn a b) xs) w → P at (a ∷ b ∷ xs) (framesBefore (headed at a b ∷ []) w)) where
   every : (at skip : ℕ) (xs : List ℕ) → skip ≤ length xs → P (at + skip) (drop skip xs) (walk at skip xs)
   unfolding walk
   every at zero [] h = rw add-zero (end at [])
@@ -83,7 +83,7 @@ module _ (P : ℕ → List ℕ → Frames → Type 0)
     where
       go : (t : Bool) → eqb (lengthIn a b) 0 ≡ t → (u : Bool) → ltb (length xs) (lengthIn a b) ≡ u → (v : Bool) → ltb 422 (lengthIn a b) ≡ v
           → (lengthIn a b ≤ length xs → P (suc (suc at) + lengthIn a b) (drop (lengthIn a b) xs) (walk (suc (suc at)) (lengthIn a b) xs))
-          → P at (a ∷ b ∷ xs) (cond t (listed [] at) (cond u (refused 11) (cond v (refused 12) (before (headed at a b ∷ []) (walk (suc (suc at)) (lengthIn a b) xs)))))
+          → P at (a ∷ b ∷ xs) (cond t (listed [] at) (cond u (refused 11) (cond v (refused 12) (framesBefore (headed at a b ∷ []) (walk (suc (suc at)) (lengthIn a b) xs)))))
       go true e u f v g ih = end at (a ∷ b ∷ xs)
       go false e true f v g ih = refuse at (a ∷ b ∷ xs) 11
       go false e false f true g ih = refuse at (a ∷ b ∷ xs) 12
@@ -98,8 +98,8 @@ module _ (P : ℕ → List ℕ → Frames → Type 0)
 
 -- what holds of the walk over the application data, of the empty list and of the refusal holds of a payload's list
 module _ (p : List ℕ) (P : Frames → Type 0) (valid : length p ≡ 432 → P (walk 0 0 (drop 8 p))) (empty : length p ≡ 432 → P (listed [] 0)) (refuse : P (refused 7)) where
-  pub every-listing : P (listing p)
-  unfolding listing
+  pub every-listing : P (payloadFrames p)
+  unfolding payloadFrames
   every-listing = go (eqb (length p) 432) refl (eqb (validBit p) 1)
     where
       go : (t : Bool) → eqb (length p) 432 ≡ t → (u : Bool) → P (cond t (cond u (walk 0 0 (drop 8 p)) (listed [] 0)) (refused 7))

@@ -9,7 +9,7 @@ use lib.ListN.{length, getD, take, set, replicate}
 use Rattle.uplink.specs.declared.Added.{Added}
 use Rattle.uplink.specs.declared.Added.the-variants.{Done, Refused}
 use Rattle.uplink.specs.Frames.{frameBytes, withValidBit}
-use Rattle.uplink.specs.Walk.{Frames, listed, refused, listing}
+use Rattle.uplink.specs.Walk.{Frames, listed, refused, payloadFrames}
 
 -- a type of four bits, and 1 to 422 bytes of data
 abbrev pub isGood : ℕ → ℕ → Bool
@@ -35,9 +35,9 @@ addedNumber Done = 0
 addedNumber (Refused k) = k
 
 abbrev pub payloadAfter : Added → List ℕ → ℕ → List ℕ → List ℕ
-payloadAfter Done p kind xs = withFrame p (endOf (listing p)) kind xs
+payloadAfter Done p kind xs = withFrame p (endOf (payloadFrames p)) kind xs
 payloadAfter (Refused k) p kind xs = p
 
 pub record Adds (p : List ℕ) (kind : ℕ) (xs : List ℕ) (answer : Added) (left : List ℕ) : Type 0 where
-  pub answers : answer ≡ adding (listing p) kind (length xs)
+  pub answers : answer ≡ adding (payloadFrames p) kind (length xs)
   pub leaves : left ≡ payloadAfter answer p kind xs

@@ -5,10 +5,10 @@ use mathlib.Core.Bool.{cond}
 use mathlib.Core.List.{List, []}
 use lib.Dec.{ltb}
 use lib.ListN.{length, getD}
-use Rattle.numbers.specs.Lent.{stretch}
+use Rattle.numbers.specs.Lent.{stretch, Part}
 use Rattle.uplink.specs.declared.Frame.{Frame}
-use Rattle.uplink.specs.declared.Listing.{Listing}
-use Rattle.uplink.specs.declared.Listing.the-variants as list
+use Rattle.uplink.specs.declared.FrameList.{FrameList}
+use Rattle.uplink.specs.declared.FrameList.the-variants as list
 use Rattle.uplink.specs.declared.Found.{Found}
 use Rattle.uplink.specs.declared.Found.the-variants as nth
 use Rattle.uplink.specs.declared.Walked.{Walked}
@@ -16,18 +16,18 @@ use Rattle.uplink.specs.declared.Walked.the-variants as scan
 use Rattle.uplink.specs.Walk.{Frames, listed, refused}
 
 -- how many frames, and the list's end
-unfoldable pub counted : Frames → Listing
-counted (listed fs end) = list.Frames (length fs) end
-counted (refused k) = list.Refused k
+unfoldable pub frameList : Frames → FrameList
+frameList (listed fs end) = list.Frames (length fs) end
+frameList (refused k) = list.Refused k
 
 -- 0 in each field, where there is no frame
 abbrev pub none : Frame
 none = record { at = 0; length = 0; reserved = 0; kind = 0 }
 
 -- frame n, numbered from 0; 13 where there is none
-unfoldable pub numbered : Frames → ℕ → Found
-numbered (listed fs end) n = cond (ltb n (length fs)) (nth.Frame (getD fs n none)) (nth.Refused 13)
-numbered (refused k) n = nth.Refused k
+unfoldable pub nthFrame : Frames → ℕ → Found
+nthFrame (listed fs end) n = cond (ltb n (length fs)) (nth.Frame (getD fs n none)) (nth.Refused 13)
+nthFrame (refused k) n = nth.Refused k
 
 -- where in the payload a frame's data start, behind the payload's header of 8 bytes and the frame's own of 2; 0 beside a refusal
 abbrev pub dataStart : Found → ℕ
@@ -38,24 +38,7 @@ dataStart (nth.Refused k) = 0
 unfoldable pub dataIn : List ℕ → Frame → List ℕ
 dataIn p f = stretch (dataStart (nth.Frame f)) (f .length) p
 
--- what one walk finds: count, end, and frame n
-unfoldable pub scanned : ℕ → Frames → Walked
-scanned n (listed fs end) = scan.Listed (length fs) end (getD fs n none)
-scanned n (refused k) = scan.Refused k
-
--- 01's number and values for each case, 0 beside a refusal
-abbrev pub listNumber : Listing → ℕ
-listNumber (list.Frames n end) = 0
-listNumber (list.Refused k) = k
-
-abbrev pub listCount : Listing → ℕ
-listCount (list.Frames n end) = n
-listCount (list.Refused k) = 0
-
-abbrev pub listEnd : Listing → ℕ
-listEnd (list.Frames n end) = end
-listEnd (list.Refused k) = 0
-
+-- 01's number and the frame for each case of a frame asked for, 0 beside a refusal
 abbrev pub foundNumber : Found → ℕ
 foundNumber (nth.Frame f) = 0
 foundNumber (nth.Refused k) = k
@@ -63,3 +46,25 @@ foundNumber (nth.Refused k) = k
 abbrev pub foundFrame : Found → Frame
 foundFrame (nth.Frame f) = f
 foundFrame (nth.Refused k) = none
+
+-- the data of the frame that was asked for, in the payload's own memory; no bytes beside a refusal
+abbrev pub DataPart : Found → List ℕ → ℕ × ℕ → List ℕ → ℕ × ℕ → Type 0
+DataPart found p at part place = Part (dataStart found) (foundFrame found .length) p at part place
+
+-- what one walk finds: count, end, and frame n
+unfoldable pub scanned : ℕ → Frames → Walked
+scanned n (listed fs end) = scan.Listed (length fs) end (getD fs n none)
+scanned n (refused k) = scan.Refused k
+
+-- 01's number and values for each case, 0 beside a refusal
+abbrev pub listNumber : FrameList → ℕ
+listNumber (list.Frames n end) = 0
+listNumber (list.Refused k) = k
+
+abbrev pub listCount : FrameList → ℕ
+listCount (list.Frames n end) = n
+listCount (list.Refused k) = 0
+
+abbrev pub listEnd : FrameList → ℕ
+listEnd (list.Frames n end) = end
+listEnd (list.Refused k) = 0

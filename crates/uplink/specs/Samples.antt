@@ -3,10 +3,10 @@
 use mathlib.Core.Path.{_≡_}
 use Prim.Native.Nat.{ℕ, zero, suc, _/_, _%_}
 use mathlib.Core.List.{List, [], _∷_, map}
-use Rattle.uplink.specs.declared.Listing.the-variants as list
-use Rattle.uplink.specs.Walk.{listing}
-use Rattle.uplink.specs.Answers.{counted}
-use Rattle.uplink.specs.Claims.{framesIn, payload}
+use Rattle.uplink.specs.declared.FrameList.the-variants as list
+use Rattle.uplink.specs.Walk.{payloadFrames}
+use Rattle.uplink.specs.Answers.{frameList}
+use Rattle.uplink.specs.Claims.{framesIn, payloadWith}
 
 -- n bytes of a number, the highest first, before others
 unfoldable pub bytesOf : ℕ → ℕ → List ℕ → List ℕ
@@ -65,9 +65,9 @@ textual =
 -- count, end and lengths; the rest of each field is zeros
 abbrev pub Samples : Type 0
 Samples =
-    (counted (listing (payload graphical1 72)) ≡ list.Frames 7 340)
-    × (map (λ f. f .length) (framesIn (listing (payload graphical1 72))) ≡ 38 ∷ 65 ∷ 41 ∷ 38 ∷ 65 ∷ 41 ∷ 38 ∷ [])
-    × (counted (listing (payload graphical2 200)) ≡ list.Frames 12 210)
-    × (map (λ f. f .length) (framesIn (listing (payload graphical2 200))) ≡ 65 ∷ 41 ∷ 8 ∷ 8 ∷ 8 ∷ 8 ∷ 8 ∷ 8 ∷ 8 ∷ 8 ∷ 8 ∷ 8 ∷ [])
-    × (counted (listing (payload textual 72)) ≡ list.Frames 5 345)
-    × (map (λ f. f .length) (framesIn (listing (payload textual 72))) ≡ 67 ∷ 67 ∷ 67 ∷ 67 ∷ 67 ∷ [])
+    (frameList (payloadFrames (payloadWith graphical1 72)) ≡ list.Frames 7 340)
+    × (map (λ f. f .length) (framesIn (payloadFrames (payloadWith graphical1 72))) ≡ 38 ∷ 65 ∷ 41 ∷ 38 ∷ 65 ∷ 41 ∷ 38 ∷ [])
+    × (frameList (payloadFrames (payloadWith graphical2 200)) ≡ list.Frames 12 210)
+    × (map (λ f. f .length) (framesIn (payloadFrames (payloadWith graphical2 200))) ≡ 65 ∷ 41 ∷ 8 ∷ 8 ∷ 8 ∷ 8 ∷ 8 ∷ 8 ∷ 8 ∷ 8 ∷ 8 ∷ 8 ∷ [])
+    × (frameList (payloadFrames (payloadWith textual 72)) ≡ list.Frames 5 345)
+    × (map (λ f. f .length) (framesIn (payloadFrames (payloadWith textual 72))) ≡ 67 ∷ 67 ∷ 67 ∷ 67 ∷ 67 ∷ [])

@@ -14,9 +14,9 @@ pub data Frames : Type 0 where
   refused : ℕ → Frames
 
 -- frames before those of a list; one refused frame refuses them all
-unfoldable pub before : List Frame → Frames → Frames
-before fs (listed gs end) = listed (fs ++ gs) end
-before fs (refused k) = refused k
+unfoldable pub framesBefore : List Frame → Frames → Frames
+framesBefore fs (listed gs end) = listed (fs ++ gs) end
+framesBefore fs (refused k) = refused k
 
 -- the list from byte `at` on, of which the bytes are given and the first `skip` are data of the frame before. Fewer than two bytes
 -- left, or length 0, ends it; at each header 11, then 12
@@ -28,12 +28,12 @@ walk at zero (a ∷ b ∷ xs) =
     cond (eqb (lengthIn a b) 0) (listed [] at)
     (cond (ltb (length xs) (lengthIn a b)) (refused 11)
     (cond (ltb 422 (lengthIn a b)) (refused 12)
-    (before (headed at a b ∷ []) (walk (suc (suc at)) (lengthIn a b) xs))))
+    (framesBefore (headed at a b ∷ []) (walk (suc (suc at)) (lengthIn a b) xs))))
 
 -- bit 5 of the seventh header byte
 abbrev pub validBit : List ℕ → ℕ
 validBit p = getD p 6 0 / 32 % 2
 
 -- the list of a payload: 7 unless it has 432 bytes; where its data are not valid, an empty list that ends at byte 0
-unfoldable pub listing : List ℕ → Frames
-listing p = cond (eqb (length p) 432) (cond (eqb (validBit p) 1) (walk 0 0 (drop 8 p)) (listed [] 0)) (refused 7)
+unfoldable pub payloadFrames : List ℕ → Frames
+payloadFrames p = cond (eqb (length p) 432) (cond (eqb (validBit p) 1) (walk 0 0 (drop 8 p)) (listed [] 0)) (refused 7)

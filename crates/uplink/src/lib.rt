@@ -5,10 +5,9 @@ ghost use mathlib.Core.List.{_++_};
 ghost use Prim.Native.Nat.{_+_, _-_, _≤_};
 ghost use lib.ListN.{length, take, replicate};
 ghost use lib.Seq.{paste};
-ghost use Rattle.numbers.specs.Lent.{Part};
 ghost use Rattle.uplink.specs.Frames.{headed, withValidBit};
-ghost use Rattle.uplink.specs.Walk.{listing};
-ghost use Rattle.uplink.specs.Answers.{scanned, counted, numbered, foundFrame, dataStart};
+ghost use Rattle.uplink.specs.Walk.{payloadFrames};
+ghost use Rattle.uplink.specs.Answers.{scanned, frameList, nthFrame, DataPart};
 ghost use Rattle.uplink.specs.Adding.{isGood, withFrame, Adds};
 
 pub struct Frame {
@@ -21,7 +20,7 @@ pub struct Frame {
     pub kind: u8,
 }
 
-pub enum Listing {
+pub enum FrameList {
     // how many frames, and the byte of the application data at which their list ends
     Frames { count: usize, end: usize },
     // 01's number: 7, payload not 432 bytes; 11, a frame runs past the application data; 12, a length over 422
@@ -47,18 +46,18 @@ enum Walked {
 }
 
 // How many frames a payload has.
-pub fn list(payload: &[u8]) -> Listing
-    ensures { λ r. ⌜ r ≡ counted (listing (now (payload .entry))) ⌝ }
+pub fn list(payload: &[u8]) -> FrameList
+    ensures { λ r. ⌜ r ≡ frameList (payloadFrames (now (payload .entry))) ⌝ }
 {
     match scan(payload, 0) {
-        Walked::Listed(count, end, _) => Listing::Frames { count, end },
-        Walked::Refused(k) => Listing::Refused(k),
+        Walked::Listed(count, end, _) => FrameList::Frames { count, end },
+        Walked::Refused(k) => FrameList::Refused(k),
     }
 }
 
 // Frame n, numbered from 0.
 pub fn nth(payload: &[u8], n: usize) -> Found
-    ensures { λ r. ⌜ r ≡ numbered (listing (now (payload .entry))) n ⌝ }
+    ensures { λ r. ⌜ r ≡ nthFrame (payloadFrames (now (payload .entry))) n ⌝ }
 {
     match scan(payload, n) {
         Walked::Listed(count, _, frame) => {
@@ -74,7 +73,7 @@ pub fn nth(payload: &[u8], n: usize) -> Found
 
 // The data of frame n, in the caller's own memory; an empty part on a refusal.
 pub fn data<'a>(payload: &'a [u8], n: usize) -> &'a [u8]
-    ensures { λ r. ⌜ Part (dataStart (numbered (listing (now (payload .entry))) n)) (foundFrame (numbered (listing (now (payload .entry))) n) .length) (now (payload .entry)) (payload .entry .ptr) (now r) (r .ptr) ⌝ }
+    ensures { λ r. ⌜ DataPart (nthFrame (payloadFrames (now (payload .entry))) n) (now (payload .entry)) (payload .entry .ptr) (now r) (r .ptr) ⌝ }
 {
     match nth(payload, n) {
         Found::Frame(f) => {
@@ -91,7 +90,7 @@ pub fn add(payload: &mut [u8], kind: u8, bytes: &[u8]) -> Added
     ensures { λ r. ⌜ Adds (now (payload .entry)) kind (now (bytes .entry)) r (now (payload .exit)) ⌝ }
 {
     match list(payload) {
-        Listing::Frames { count: _, end } => {
+        FrameList::Frames { count: _, end } => {
             let n = bytes.len();
             if !is_good(kind, n) {
                 return Added::Refused(8);
@@ -102,13 +101,13 @@ pub fn add(payload: &mut [u8], kind: u8, bytes: &[u8]) -> Added
             put(payload, end, kind, bytes);
             Added::Done
         }
-        Listing::Refused(k) => Added::Refused(k),
+        FrameList::Refused(k) => Added::Refused(k),
     }
 }
 
 // The walk over the application data, which remembers frame n.
 fn scan(payload: &[u8], n: usize) -> Walked
-    ensures { λ r. ⌜ r ≡ scanned n (listing (now (payload .entry))) ⌝ }
+    ensures { λ r. ⌜ r ≡ scanned n (payloadFrames (now (payload .entry))) ⌝ }
 {
     // none yet
     let mut frame = header(0, 0, 0);

@@ -8,45 +8,45 @@ use native.Mathlib.Omega.{arith}
 use lib.Dec.{eqb}
 use lib.ListN.{length, take, drop}
 use borrow.Author.Tests.{eq-eqb, ne-eqb}
-use Rattle.numbers.specs.Lent.{stretch, behind, Part}
+use Rattle.numbers.specs.Lent.{stretch, behind}
 use Rattle.message_types.specs.declared.UplinkRead.{UplinkRead}
-use Rattle.passing.specs.Uplink.{uplinkRead, payloadStart, payloadSize, payloadOf}
+use Rattle.passing.specs.Uplink.{uplinkRead, payloadStart, payloadOf, PayloadPart}
 use Rattle.passing.proofs.Uplinks.{sized}
-use Rattle.uplink.specs.Walk.{refused, listing}
-use Rattle.uplink.specs.Answers.{numbered, foundFrame, dataStart}
-use Rattle.uplink_message.specs.Frames.{framesOf}
+use Rattle.uplink.specs.Walk.{refused, payloadFrames}
+use Rattle.uplink.specs.Answers.{nthFrame, foundFrame, dataStart, DataPart}
+use Rattle.uplink_message.specs.Frames.{messageFrames}
 
 module _ (m : List ℕ) where
   module _ {r : UplinkRead} (e : r ≡ uplinkRead m) where
-    pub turned-away : (r .number ≡ 0 → ⊥) → refused (r .number) ≡ framesOf m
-    unfolding framesOf
+    pub turned-away : (r .number ≡ 0 → ⊥) → refused (r .number) ≡ messageFrames m
+    unfolding messageFrames
     turned-away h = rw (← e, ne-eqb _ 0 h) refl
 
-    pub walked : r .number ≡ 0 → listing (take (length m - 4) (drop 4 m)) ≡ framesOf m
-    unfolding framesOf
+    pub walked : r .number ≡ 0 → payloadFrames (take (length m - 4) (drop 4 m)) ≡ messageFrames m
+    unfolding messageFrames
     walked h =
         let size : length m - 4 ≡ 432 = omega (arith, sized m e h) in
-        rw (← e, eq-eqb _ 0 h) (ap (λ (n : ℕ). listing (take n (drop 4 m))) size)
+        rw (← e, eq-eqb _ 0 h) (ap (λ (n : ℕ). payloadFrames (take n (drop 4 m))) size)
 
   -- where the message is refused, so is its payload, which is empty
   same-data : (n : ℕ)
-      → (dataStart (numbered (listing (payloadOf m)) n) ≡ dataStart (numbered (framesOf m) n))
-      × (foundFrame (numbered (listing (payloadOf m)) n) .length ≡ foundFrame (numbered (framesOf m) n) .length)
-  unfolding framesOf listing numbered
+      → (dataStart (nthFrame (payloadFrames (payloadOf m)) n) ≡ dataStart (nthFrame (messageFrames m) n))
+      × (foundFrame (nthFrame (payloadFrames (payloadOf m)) n) .length ≡ foundFrame (nthFrame (messageFrames m) n) .length)
+  unfolding messageFrames payloadFrames nthFrame
   same-data n = go (eqb (uplinkRead m .number) 0) (uplinkRead m .number)
     where
       go : (b : Bool) (k : ℕ)
-          → (dataStart (numbered (listing (stretch (cond b 4 0) (cond b 432 0) m)) n)
-          ≡ dataStart (numbered (cond b (listing (stretch (cond b 4 0) (cond b 432 0) m)) (refused k)) n))
-          × (foundFrame (numbered (listing (stretch (cond b 4 0) (cond b 432 0) m)) n) .length
-          ≡ foundFrame (numbered (cond b (listing (stretch (cond b 4 0) (cond b 432 0) m)) (refused k)) n) .length)
+          → (dataStart (nthFrame (payloadFrames (stretch (cond b 4 0) (cond b 432 0) m)) n)
+          ≡ dataStart (nthFrame (cond b (payloadFrames (stretch (cond b 4 0) (cond b 432 0) m)) (refused k)) n))
+          × (foundFrame (nthFrame (payloadFrames (stretch (cond b 4 0) (cond b 432 0) m)) n) .length
+          ≡ foundFrame (nthFrame (cond b (payloadFrames (stretch (cond b 4 0) (cond b 432 0) m)) (refused k)) n) .length)
       go true k = (refl, refl)
       go false k = (refl, refl)
 
-  pub part-of-part : (n : ℕ) {p part : List ℕ} {at q place : ℕ × ℕ} → Part (payloadStart m) (payloadSize m) m at p q
-      → Part (dataStart (numbered (listing p) n)) (foundFrame (numbered (listing p) n) .length) p q part place
-      → Part (dataStart (numbered (framesOf m) n)) (foundFrame (numbered (framesOf m) n) .length) (payloadOf m) (behind (payloadStart m) at) part place
+  pub part-of-part : (n : ℕ) {p part : List ℕ} {at q place : ℕ × ℕ} → PayloadPart m at p q
+      → DataPart (nthFrame (payloadFrames p) n) p q part place
+      → DataPart (nthFrame (messageFrames m) n) (payloadOf m) (behind (payloadStart m) at) part place
   part-of-part n h d =
       let s = same-data n in
-      let e = rw (h .holds, h .stands) at d in
-      record { holds = rw (← s .0, ← s .1) (e .holds); stands = rw (← s .0) (e .stands) }
+      let e = rw (h .content, h .position) at d in
+      record { content = rw (← s .0, ← s .1) (e .content); position = rw (← s .0) (e .position) }

@@ -5,8 +5,8 @@ use mathlib.Core.Bool.{cond}
 use mathlib.Core.List.{List}
 use lib.Dec.{eqb}
 use Rattle.passing.specs.Uplink.{uplinkRead, payloadOf}
-use Rattle.uplink.specs.Walk.{Frames, refused, listing}
+use Rattle.uplink.specs.Walk.{Frames, refused, payloadFrames}
 
 -- refused as reading the message is, 6, 7, 8; then as the walk over its payload is
-unfoldable pub framesOf : List ℕ → Frames
-framesOf m = cond (eqb (uplinkRead m .number) 0) (listing (payloadOf m)) (refused (uplinkRead m .number))
+unfoldable pub messageFrames : List ℕ → Frames
+messageFrames m = cond (eqb (uplinkRead m .number) 0) (payloadFrames (payloadOf m)) (refused (uplinkRead m .number))

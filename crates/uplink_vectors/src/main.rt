@@ -13,7 +13,7 @@ use libc::STDIN_FILENO;
 use libc::STDOUT_FILENO;
 use uplink::Added;
 use uplink::Found;
-use uplink::Listing;
+use uplink::FrameList;
 
 fn print(text: &[u8]) {
     io::write_all(STDOUT_FILENO, text);
@@ -50,13 +50,13 @@ fn print_frames(payload: &[u8], count: usize) {
 fn print_list(payload: &[u8]) {
     print(b"list");
     match uplink::list(payload) {
-        Listing::Frames { count, end } => {
+        FrameList::Frames { count, end } => {
             print_number(0);
             print_number(count);
             print_number(end);
             print_frames(payload, count);
         }
-        Listing::Refused(k) => print_number(k as usize),
+        FrameList::Refused(k) => print_number(k as usize),
     }
     print(b"\n");
 }

@@ -9,14 +9,14 @@ use Rattle.collecting.specs.declared.Collector.{Collector}
 use Rattle.collecting.specs.declared.Collected.{Collected}
 use Rattle.collecting.specs.Step.{fresh, next, answerTo, stepped}
 use Rattle.collecting.specs.Stream.{isAnswered}
-use Rattle.by_value_benchmark.specs.Given.{given}
+use Rattle.by_value_benchmark.specs.Answers.{answerCount}
 use Rattle.by_value_benchmark.proofs.Counting.{at-most-one, one-less, none-left}
 use Rattle.by_value_benchmark.proofs.by_value_answers.Statement.{statement}
 use Rattle.by_value_benchmark.proofs.by_value_answers.Tie as tie
 
 abbrev Inv-loop : tie.InvT-loop
 Inv-loop bytes collector₀ n₀ i₀ collector n i =
-    (i ≤ length bytes) × (n ≤ i) × (n + given collector (drop i bytes) ≡ given fresh bytes)
+    (i ≤ length bytes) × (n ≤ i) × (n + answerCount collector (drop i bytes) ≡ answerCount fresh bytes)
 
 abbrev μ-loop : tie.MeasureT-loop
 μ-loop bytes collector₀ n₀ i₀ collector n i = length bytes - i
@@ -31,7 +31,7 @@ fresh-requires c κs = tt
 
 loop-holds : tie.Need-loop-holds Inv-loop μ-loop
 loop-holds c =
-    (omega arith, omega arith, omega (arith, ap (λ (d : Collector). given d (c .before .before .args .bytes .now)) (c .fresh .ensures)))
+    (omega arith, omega arith, omega (arith, ap (λ (d : Collector). answerCount d (c .before .before .args .bytes .now)) (c .fresh .ensures)))
 
 shared-slice-read-step : tie.Need-shared-slice-read-step Inv-loop μ-loop
 shared-slice-read-step c = omega arith
@@ -59,7 +59,7 @@ loop-again c =
     let state : c .before .before .step .result .state ≡ next (l .loop .collector) b = unfold stepped in ap (λ (s : Collected). s .state) (c .before .before .step .ensures) in (
       omega arith,
       omega (arith, counts c, at-most-one (answerTo (l .loop .collector) b)),
-      omega (arith, counts c, one-less (l .loop .collector) bytes (l .loop .i) (omega arith), ap (λ (d : Collector). given d (drop (l .loop .i + 1) bytes)) state),
+      omega (arith, counts c, one-less (l .loop .collector) bytes (l .loop .i) (omega arith), ap (λ (d : Collector). answerCount d (drop (l .loop .i + 1) bytes)) state),
     )
 
 returns : tie.Need-returns Inv-loop μ-loop

@@ -2,7 +2,7 @@
 -- Assumes nothing.
 use mathlib.Core.Path.{sym, ap, _∙_}
 use lib.Seq.{length-take-le}
-use Rattle.messages.specs.Message.{number}
+use Rattle.messages.specs.Message.{readingNumber}
 use borrow.Author.Needs.{needs}
 use Rattle.listing.proofs.read_number.Statement.{statement}
 use Rattle.listing.proofs.read_number.Tie as tie
@@ -17,7 +17,7 @@ number-of-requires : tie.Need-number-of-requires
 number-of-requires c κs = search needs
 
 returns : tie.Need-returns
-returns c = c .number-of .ensures ∙ ap number (c .before .read .ensures)
+returns c = c .number-of .ensures ∙ ap readingNumber (c .before .read .ensures)
 
 pub read-number-spec : {M : Type 1} → statement M
 read-number-spec =

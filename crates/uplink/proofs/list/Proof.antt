@@ -1,6 +1,6 @@
 -- `uplink::list` meets its contract.
 -- Assumes nothing.
-use Rattle.uplink.specs.Answers.{counted}
+use Rattle.uplink.specs.Answers.{frameList}
 use Rattle.uplink.proofs.Answering.{count-is, refused-is}
 use borrow.Author.Needs.{needs}
 use Rattle.uplink.proofs.list.Statement.{statement}
@@ -19,7 +19,7 @@ returns : tie.Need-returns
 returns c = count-is 0 _ (c .before .count .given .1) (c .before .before .before .scan .ensures)
 
 returns-2 : tie.Need-returns-2
-unfolding counted
+unfolding frameList
 returns-2 c = rw (refused-is 0 _ (c .before .k .given .1) (c .before .before .before .scan .ensures))
 
 pub list-spec : {M : Type 1} → statement M

@@ -1,7 +1,7 @@
 -- `uplink::nth` meets its contract.
 -- Assumes nothing.
 use borrow.Author.Tests.{lt-ltb, le-ltb}
-use Rattle.uplink.specs.Answers.{numbered}
+use Rattle.uplink.specs.Answers.{nthFrame}
 use Rattle.uplink.proofs.Answering.{found-is, refused-is}
 use borrow.Author.Needs.{needs}
 use Rattle.uplink.proofs.nth.Statement.{statement}
@@ -23,7 +23,7 @@ returns-2 : tie.Need-returns-2
 returns-2 c = rw (le-ltb _ _ (c .if1 .left)) at (found-is _ _ (c .before .before .count .given .1) (c .before .before .before .before .scan .ensures))
 
 returns-3 : tie.Need-returns-3
-unfolding numbered
+unfolding nthFrame
 returns-3 c = rw (refused-is _ _ (c .before .k .given .1) (c .before .before .before .scan .ensures))
 
 pub nth-spec : {M : Type 1} → statement M

@@ -4,7 +4,7 @@ use mathlib.Core.Path.{ap, _∙_}
 use native.Mathlib.Omega.{arith}
 use borrow.Author.Needs.{needs}
 use Rattle.passing.proofs.Uplinks.{sized}
-use Rattle.uplink.specs.Answers.{counted}
+use Rattle.uplink.specs.Answers.{frameList}
 use Rattle.uplink_message.proofs.Payloads.{turned-away, walked}
 use Rattle.uplink_message.proofs.list.Statement.{statement}
 use Rattle.uplink_message.proofs.list.Tie as tie
@@ -13,8 +13,8 @@ read-uplink-requires : tie.Need-read-uplink-requires
 read-uplink-requires c κs = search needs
 
 returns : tie.Need-returns
-unfolding counted
-returns c = ap counted (turned-away _ (c .before .before .read-uplink .ensures) (c .if1 .taken))
+unfolding frameList
+returns c = ap frameList (turned-away _ (c .before .before .read-uplink .ensures) (c .if1 .taken))
 
 sub-list : tie.Need-sub-list
 sub-list c = omega (arith, sized _ (c .before .before .read-uplink .ensures) (c .if1 .left))
@@ -31,7 +31,7 @@ list-requires c κs = search needs
 returns-2 : tie.Need-returns-2
 returns-2 c =
     let r = c .before .before .before .before in
-    c .list .ensures ∙ ap counted (walked _ (r .read-uplink .ensures) (c .before .before .if1 .left))
+    c .list .ensures ∙ ap frameList (walked _ (r .read-uplink .ensures) (c .before .before .if1 .left))
 
 pub list-spec : {M : Type 1} → statement M
 list-spec =

@@ -5,7 +5,7 @@ use native.Mathlib.Omega.{arith}
 use borrow.Author.Needs.{needs}
 use Rattle.passing.proofs.Uplinks.{sized}
 use Rattle.uplink.specs.Walk.{Frames}
-use Rattle.uplink.specs.Answers.{numbered}
+use Rattle.uplink.specs.Answers.{nthFrame}
 use Rattle.uplink_message.proofs.Payloads.{turned-away, walked}
 use Rattle.uplink_message.proofs.nth.Statement.{statement}
 use Rattle.uplink_message.proofs.nth.Tie as tie
@@ -14,8 +14,8 @@ read-uplink-requires : tie.Need-read-uplink-requires
 read-uplink-requires c κs = search needs
 
 returns : tie.Need-returns
-unfolding numbered
-returns c = ap (λ (fs : Frames). numbered fs (c .before .before .before .before .args .n)) (turned-away _ (c .before .before .read-uplink .ensures) (c .if1 .taken))
+unfolding nthFrame
+returns c = ap (λ (fs : Frames). nthFrame fs (c .before .before .before .before .args .n)) (turned-away _ (c .before .before .read-uplink .ensures) (c .if1 .taken))
 
 sub-nth : tie.Need-sub-nth
 sub-nth c = omega (arith, sized _ (c .before .before .read-uplink .ensures) (c .if1 .left))
@@ -32,7 +32,7 @@ nth-requires c κs = search needs
 returns-2 : tie.Need-returns-2
 returns-2 c =
     let r = c .before .before .before .before in
-    c .nth .ensures ∙ ap (λ (fs : Frames). numbered fs (r .before .before .args .n)) (walked _ (r .read-uplink .ensures) (c .before .before .if1 .left))
+    c .nth .ensures ∙ ap (λ (fs : Frames). nthFrame fs (r .before .before .args .n)) (walked _ (r .read-uplink .ensures) (c .before .before .if1 .left))
 
 pub nth-spec : {M : Type 1} → statement M
 nth-spec =

@@ -7,6 +7,6 @@ use Rattle.collecting.specs.declared.Collector.{Collector}
 use Rattle.collecting.specs.Step.{next, answerTo}
 use Rattle.collecting.specs.Stream.{isAnswered}
 
-unfoldable pub given : Collector → List ℕ → ℕ
-given c [] = 0
-given c (b ∷ bs) = cond (isAnswered (answerTo c b)) 1 0 + given (next c b) bs
+unfoldable pub answerCount : Collector → List ℕ → ℕ
+answerCount c [] = 0
+answerCount c (b ∷ bs) = cond (isAnswered (answerTo c b)) 1 0 + answerCount (next c b) bs
