@@ -12,7 +12,8 @@
      4  1 or 2 bytes                9  output too short
    Of several that apply, the one named first beside a function is given. 12 never is: such a frame is refused with 11 before.
    With 0 only the bytes written change. With any other number every other field of the answer is 0, and memory lent for output is
-   as it was. gdl90_feed alone goes on: its answer always has the state and the bytes taken, and the room is part of the state. */
+   as it was. The one exception is gdl90_feed, which goes on behind a refused frame: `control` and `taken` always hold the state and
+   the bytes taken, `answered` is true with a refusal too, and the room is part of the state. */
 #ifndef GDL90_H
 #define GDL90_H
 
@@ -48,9 +49,12 @@ struct gdl90_frame_answer gdl90_frame(const uint8_t *message, size_t message_len
 
 /* ---- collecting frames from a stream. Control and room are the state: keep both, unchanged, from one call to the next. */
 
-struct gdl90_feed_control { /* all zero: the fresh state; the room is then zero too */
-    size_t count;           /* bytes in the room, 0 to 438 */
-    uint8_t phase;          /* 0 to 4; a state with another phase or count is taken as the fresh one */
+/* All zero: the fresh state; the room is then zero too. After a call that took a byte both fields are in their ranges. A control
+   with another phase or count is taken as the fresh state. Fed no byte at all, one with a phase over 4 comes back with count 439
+   and phase 0, and any other with a count over 438 as it came: both are taken as the fresh state again. */
+struct gdl90_feed_control {
+    size_t count;  /* bytes in the room, 0 to 438 */
+    uint8_t phase; /* 0 to 4 */
 };
 
 struct gdl90_feed_answer {
@@ -109,21 +113,33 @@ struct gdl90_uplink {
     uint32_t reception;     /* 0 to 12,499,999 steps of 80 ns */
 };
 
+/* Altitudes come in three units. Each is a struct of its own, so that feet are worked out only from the matching one: a compiler
+   refuses the others. */
+struct gdl90_pressure_steps {
+    uint16_t steps; /* of 25 feet from -1,000 feet on */
+};
+struct gdl90_geometric_steps {
+    int16_t steps; /* of 5 feet */
+};
+struct gdl90_feet_above_terrain {
+    int16_t feet;
+};
+
 struct gdl90_height {
-    uint8_t height_mark; /* none */
-    int16_t height;      /* feet above terrain, -32,767 to 32,767 */
+    uint8_t height_mark;                    /* none */
+    struct gdl90_feet_above_terrain height; /* -32,767 to 32,767 */
 };
 
 struct gdl90_report { /* an ownship's or of traffic */
-    uint8_t alert;         /* 0 to 15 */
-    uint8_t address_type;  /* 0 to 15 */
-    uint32_t address;      /* 0 to 16,777,215 */
-    uint8_t position_mark; /* of both; none, with integrity 0 only; with integrity 0 a position 0, 0 is none */
-    int32_t latitude;      /* steps of 180 / 2^23 degrees, north positive, -4,194,304 to 4,194,304 */
-    int32_t longitude;     /* likewise, east positive, -8,388,608 to 8,388,607 */
-    uint8_t altitude_mark; /* none */
-    uint16_t altitude;     /* steps of 25 feet from -1,000 feet on, 0 to 4,094 */
-    uint8_t track_kind;    /* 0 not valid, 1 true track, 2 magnetic heading, 3 true heading */
+    uint8_t alert;                        /* 0 to 15 */
+    uint8_t address_type;                 /* 0 to 15 */
+    uint32_t address;                     /* 0 to 16,777,215 */
+    uint8_t position_mark;                /* of both; none, with integrity 0 only; with integrity 0 a position 0, 0 is none */
+    int32_t latitude;                     /* steps of 180 / 2^23 degrees, north positive, -4,194,304 to 4,194,304 */
+    int32_t longitude;                    /* likewise, east positive, -8,388,608 to 8,388,607 */
+    uint8_t altitude_mark;                /* none */
+    struct gdl90_pressure_steps altitude; /* 0 to 4,094 */
+    uint8_t track_kind;                   /* 0 not valid, 1 true track, 2 magnetic heading, 3 true heading */
     bool extrapolated;
     bool airborne;
     uint8_t integrity;    /* 0 to 11 */
@@ -140,7 +156,7 @@ struct gdl90_report { /* an ownship's or of traffic */
 };
 
 struct gdl90_geometric {
-    int16_t altitude; /* steps of 5 feet */
+    struct gdl90_geometric_steps altitude; /* any */
     bool warning;
     uint8_t merit_mark; /* none, over */
     uint16_t merit;     /* metres, 0 to 32,766 but not 32,494, whose code is that of over */
@@ -256,10 +272,10 @@ uint8_t gdl90_add(uint8_t *payload, size_t payload_len, uint8_t kind, const uint
 
 /* ---- units */
 
-/* Feet, each from its own unit, for every value. A field with a mark is no number of steps. */
-int32_t gdl90_pressure_feet(uint16_t steps); /* of a report's altitude, 25 feet a step from -1,000 feet on */
-int32_t gdl90_geometric_feet(int16_t steps); /* of a geometric altitude, 5 feet a step */
-int32_t gdl90_terrain_feet(int16_t feet);    /* of a height above terrain */
+/* Feet, each from its own unit, for every value. A field with a mark is no number of steps or feet. */
+int32_t gdl90_pressure_feet(struct gdl90_pressure_steps altitude);
+int32_t gdl90_geometric_feet(struct gdl90_geometric_steps altitude);
+int32_t gdl90_terrain_feet(struct gdl90_feet_above_terrain height);
 
 struct gdl90_degrees_answer {
     uint8_t number; /* 8, 0 */

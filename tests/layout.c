@@ -160,6 +160,15 @@ static void print_payloads(void)
 
 static void print_units(void)
 {
+    STRUCT(gdl90_pressure_steps);
+    FIELD(gdl90_pressure_steps, steps);
+
+    STRUCT(gdl90_geometric_steps);
+    FIELD(gdl90_geometric_steps, steps);
+
+    STRUCT(gdl90_feet_above_terrain);
+    FIELD(gdl90_feet_above_terrain, feet);
+
     STRUCT(gdl90_degrees_answer);
     FIELD(gdl90_degrees_answer, number);
     FIELD(gdl90_degrees_answer, latitude);

@@ -334,6 +334,8 @@ static void taken_as_fresh(size_t count, uint8_t phase)
 
     made_up(&s, count, phase);
     answer = feed(&s, lead_in, 0); /* fed nothing it stays one */
+    CHECK_SIZE(answer.control.count, phase > 4 ? 439 : count);
+    CHECK_U8(answer.control.phase, phase > 4 ? 0 : phase);
     CHECK_SIZE(answer.taken, 0);
     CHECK_BOOL(answer.answered, false);
     CHECK_BYTES(s.message.bytes, s.message_want, 436);
@@ -360,4 +362,5 @@ void check_frames(void)
     CASE(taken_as_fresh(0, 5));
     CASE(taken_as_fresh(7, 5));
     CASE(taken_as_fresh(438, 255));
+    CASE(taken_as_fresh(SIZE_MAX, 5));
 }

@@ -38,7 +38,7 @@ static void reads_height(const uint8_t *message, size_t length, uint8_t number, 
 
     CHECK_U8(read.number, number);
     CHECK_U8(read.height.height_mark, want->height.height_mark);
-    CHECK_I16(read.height.height, want->height.height);
+    CHECK_I16(read.height.height.feet, want->height.height.feet);
 }
 
 static void check_report(struct gdl90_report_read read, uint8_t number, const union value *want)
@@ -51,7 +51,7 @@ static void check_report(struct gdl90_report_read read, uint8_t number, const un
     CHECK_I32(read.report.latitude, want->report.latitude);
     CHECK_I32(read.report.longitude, want->report.longitude);
     CHECK_U8(read.report.altitude_mark, want->report.altitude_mark);
-    CHECK_U16(read.report.altitude, want->report.altitude);
+    CHECK_U16(read.report.altitude.steps, want->report.altitude.steps);
     CHECK_U8(read.report.track_kind, want->report.track_kind);
     CHECK_BOOL(read.report.extrapolated, want->report.extrapolated);
     CHECK_BOOL(read.report.airborne, want->report.airborne);
@@ -84,7 +84,7 @@ static void reads_geometric(const uint8_t *message, size_t length, uint8_t numbe
     struct gdl90_geometric_read read = gdl90_read_geometric(message, length);
 
     CHECK_U8(read.number, number);
-    CHECK_I16(read.geometric.altitude, want->geometric.altitude);
+    CHECK_I16(read.geometric.altitude.steps, want->geometric.altitude.steps);
     CHECK_BOOL(read.geometric.warning, want->geometric.warning);
     CHECK_U8(read.geometric.merit_mark, want->geometric.merit_mark);
     CHECK_U16(read.geometric.merit, want->geometric.merit);
@@ -164,15 +164,15 @@ static struct gdl90_write_answer write_long(const union value *value, uint8_t *o
     return gdl90_write_long(value->pass_through, out, room);
 }
 
-const struct kind HEARTBEAT = {0, 0, reads_heartbeat, write_heartbeat};
-const struct kind INITIALIZATION = {2, 2, reads_initialization, write_initialization};
-const struct kind UPLINK = {7, 7, reads_uplink, write_uplink};
-const struct kind HEIGHT = {9, 9, reads_height, write_height};
-const struct kind OWNSHIP = {10, 20, reads_ownship, write_ownship};
-const struct kind GEOMETRIC = {11, 11, reads_geometric, write_geometric};
-const struct kind TRAFFIC = {20, 10, reads_traffic, write_traffic};
-const struct kind BASIC = {30, 30, reads_basic, write_basic};
-const struct kind LONG = {31, 31, reads_long, write_long};
+const struct kind HEARTBEAT = {0, reads_heartbeat, write_heartbeat};
+const struct kind INITIALIZATION = {2, reads_initialization, write_initialization};
+const struct kind UPLINK = {7, reads_uplink, write_uplink};
+const struct kind HEIGHT = {9, reads_height, write_height};
+const struct kind OWNSHIP = {10, reads_ownship, write_ownship};
+const struct kind GEOMETRIC = {11, reads_geometric, write_geometric};
+const struct kind TRAFFIC = {20, reads_traffic, write_traffic};
+const struct kind BASIC = {30, reads_basic, write_basic};
+const struct kind LONG = {31, reads_long, write_long};
 
 /* ---- what is held of every kind */
 
@@ -226,7 +226,7 @@ void both_ways(const struct kind *kind, const char *hex, const union value *valu
     reads(kind, message, length + 1, 7, NULL);
     reads(kind, message, sizeof message, 7, NULL);
     for (id = 0; id < 256; id++) {
-        if (id == kind->id || id == kind->twin)
+        if (id == kind->id)
             continue;
         message[0] = (uint8_t)id;
         reads(kind, message, length, 6, NULL);

@@ -18,7 +18,6 @@ union value {
 /* How a kind is read, with every field held against what is wanted, and written. */
 struct kind {
     uint8_t id;
-    uint8_t twin; /* the other id that its function reads, else its own */
     void (*reads)(const uint8_t *message, size_t length, uint8_t number, const union value *want);
     struct gdl90_write_answer (*write)(const union value *value, uint8_t *out, size_t room);
 };

@@ -39,9 +39,9 @@ struct gdl90_write_answer gdl90_write_long(struct gdl90_long, u8 *, size_t);
 struct gdl90_list_answer gdl90_list(const u8 *, size_t);
 struct gdl90_nth_answer gdl90_nth(const u8 *, size_t, size_t);
 u8 gdl90_add(u8 *, size_t, u8, const u8 *, size_t);
-int32_t gdl90_pressure_feet(uint16_t);
-int32_t gdl90_geometric_feet(int16_t);
-int32_t gdl90_terrain_feet(int16_t);
+int32_t gdl90_pressure_feet(struct gdl90_pressure_steps);
+int32_t gdl90_geometric_feet(struct gdl90_geometric_steps);
+int32_t gdl90_terrain_feet(struct gdl90_feet_above_terrain);
 struct gdl90_degrees_answer gdl90_degrees(int32_t, int32_t);
 #ifdef __cplusplus
 }
@@ -184,13 +184,14 @@ static void check_sizes(void)
     const size_t word = sizeof(size_t);
     const struct gdl90_frame_answer frame = {0, 0};
     const struct gdl90_feed_answer feed = {{0, 0}, 0, false, 0, 0};
+    const struct gdl90_kind_answer kind = {0, 0};
     const struct gdl90_heartbeat_read heartbeat = {0, {0, 0, 0, 0, 0, 0}};
     const struct gdl90_initialization_read initialization = {0, {0, 0}};
     const struct gdl90_uplink_read uplink = {0, {0, 0}};
-    const struct gdl90_height_read height = {0, {0, 0}};
+    const struct gdl90_height_read height = {0, {0, {0}}};
     const struct gdl90_report_read report = {
-        0, {0, 0, 0, 0, 0, 0, 0, 0, 0, false, false, 0, 0, 0, 0, 0, 0, 0, 0, {0}, 0, 0}};
-    const struct gdl90_geometric_read geometric = {0, {0, false, 0, 0}};
+        0, {0, 0, 0, 0, 0, 0, 0, {0}, 0, false, false, 0, 0, 0, 0, 0, 0, 0, 0, {0}, 0, 0}};
+    const struct gdl90_geometric_read geometric = {0, {{0}, false, 0, 0}};
     const struct gdl90_basic_read basic = {0, {0, 0, {0}}};
     const struct gdl90_long_read pass_through = {0, {0, 0, {0}}};
     const struct gdl90_write_answer write = {0, 0};
@@ -201,6 +202,7 @@ static void check_sizes(void)
     CHECK(sizeof frame, 2 * word);
     CHECK(sizeof feed, 5 * word);
     CHECK(sizeof feed.control, 2 * word);
+    CHECK(sizeof kind, 2);
     CHECK(sizeof heartbeat, 16);
     CHECK(sizeof heartbeat.heartbeat, 12);
     CHECK(sizeof initialization, 3);
@@ -209,10 +211,13 @@ static void check_sizes(void)
     CHECK(sizeof uplink.uplink, 8);
     CHECK(sizeof height, 6);
     CHECK(sizeof height.height, 4);
+    CHECK(sizeof height.height.height, 2);
     CHECK(sizeof report, 56);
     CHECK(sizeof report.report, 52);
+    CHECK(sizeof report.report.altitude, 2);
     CHECK(sizeof geometric, 8);
     CHECK(sizeof geometric.geometric, 6);
+    CHECK(sizeof geometric.geometric.altitude, 2);
     CHECK(sizeof basic, 32);
     CHECK(sizeof basic.basic, 28);
     CHECK(sizeof pass_through, 48);
@@ -223,26 +228,47 @@ static void check_sizes(void)
     CHECK(sizeof degrees, 24);
 }
 
+static int32_t pressure_feet(uint16_t steps)
+{
+    const struct gdl90_pressure_steps altitude = {steps};
+
+    return gdl90_pressure_feet(altitude);
+}
+
+static int32_t geometric_feet(int16_t steps)
+{
+    const struct gdl90_geometric_steps altitude = {steps};
+
+    return gdl90_geometric_feet(altitude);
+}
+
+static int32_t terrain_feet(int16_t feet)
+{
+    const struct gdl90_feet_above_terrain height = {feet};
+
+    return gdl90_terrain_feet(height);
+}
+
 /* 01's value 9, 001 §3.5.1.4, §3.7 and §3.8, and the ends of each width: feet are for every value, codes of marks too. */
 static void check_feet(void)
 {
-    CHECK(gdl90_pressure_feet(0), -1000);
-    CHECK(gdl90_pressure_feet(0x028), 0);
-    CHECK(gdl90_pressure_feet(0x050), 1000);
-    CHECK(gdl90_pressure_feet(0xFFE), 101350);
-    CHECK(gdl90_pressure_feet(0xFFF), 101375);
-    CHECK(gdl90_pressure_feet(0x8000), 818200);
-    CHECK(gdl90_pressure_feet(65535), 1637375);
-    CHECK(gdl90_geometric_feet(-200), -1000);
-    CHECK(gdl90_geometric_feet(0), 0);
-    CHECK(gdl90_geometric_feet(200), 1000);
-    CHECK(gdl90_geometric_feet(-32768), -163840);
-    CHECK(gdl90_geometric_feet(32767), 163835);
-    CHECK(gdl90_terrain_feet(256), 256);
-    CHECK(gdl90_terrain_feet(0), 0);
-    CHECK(gdl90_terrain_feet(-1), -1);
-    CHECK(gdl90_terrain_feet(-32768), -32768);
-    CHECK(gdl90_terrain_feet(32767), 32767);
+    CHECK(pressure_feet(0), -1000);
+    CHECK(pressure_feet(0x028), 0);
+    CHECK(pressure_feet(0x050), 1000);
+    CHECK(pressure_feet(0xFFE), 101350);
+    CHECK(pressure_feet(0xFFF), 101375);
+    CHECK(pressure_feet(0x8000), 818200);
+    CHECK(pressure_feet(65535), 1637375);
+    CHECK(geometric_feet(-200), -1000);
+    CHECK(geometric_feet(0), 0);
+    CHECK(geometric_feet(200), 1000);
+    CHECK(geometric_feet(-32768), -163840);
+    CHECK(geometric_feet(32767), 163835);
+    CHECK(terrain_feet(256), 256);
+    CHECK(terrain_feet(0), 0);
+    CHECK(terrain_feet(-1), -1);
+    CHECK(terrain_feet(-32768), -32768);
+    CHECK(terrain_feet(32767), 32767);
 }
 
 static void degrees_are(int32_t latitude, int32_t longitude, uint8_t number, double north, double east)

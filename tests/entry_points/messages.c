@@ -1,5 +1,36 @@
-/* Seven kinds of message, read and written (01 'Messages and their lengths'; 001 §3). */
+/* The kind of a message, and seven kinds read and written (01 'Messages and their lengths'; 001 §3). */
 #include "kinds.h"
+
+/* ---- kinds, 001 Table 2: the id alone decides, at every kind's length and beyond */
+
+static void kind_is(const uint8_t *message, size_t length, uint8_t number, uint8_t id)
+{
+    struct lent input = lend_copy(message, length);
+    struct gdl90_kind_answer answer = gdl90_kind(input.bytes, length);
+
+    CHECK_U8(answer.number, number);
+    CHECK_U8(answer.id, id);
+    TAKE_BACK(input, message, length);
+}
+
+static void check_kinds(void)
+{
+    static const uint8_t ids[] = {0, 2, 7, 9, 10, 11, 20, 30, 31};
+    static const size_t lengths[] = {1, 3, 5, 7, 22, 28, 38, 436, 437};
+    uint8_t message[437];
+    unsigned id;
+    size_t i;
+
+    memset(message, 0xFF, sizeof message);
+    CASE(kind_is(message, 0, 6, 0));
+    for (id = 0; id < 256; id++) {
+        bool known = memchr(ids, (int)id, sizeof ids) != NULL;
+
+        message[0] = (uint8_t)id;
+        for (i = 0; i < sizeof lengths / sizeof lengths[0]; i++)
+            CASE(kind_is(message, lengths[i], known ? 0 : 6, known ? (uint8_t)id : 0));
+    }
+}
 
 /* ---- heartbeat, 001 §3.1 */
 
@@ -138,7 +169,7 @@ static union value height(uint8_t mark, int16_t feet)
     union value value = any();
 
     value.height.height_mark = mark;
-    value.height.height = feet;
+    value.height.height.feet = feet;
     return value;
 }
 
@@ -172,7 +203,7 @@ static union value geometric(int16_t altitude, bool warning, uint8_t mark, uint1
 {
     union value value = any();
 
-    value.geometric.altitude = altitude;
+    value.geometric.altitude.steps = altitude;
     value.geometric.warning = warning;
     value.geometric.merit_mark = mark;
     value.geometric.merit = merit;
@@ -217,6 +248,7 @@ static void check_geometric(void)
 
 void check_messages(void)
 {
+    check_kinds();
     check_heartbeat();
     check_initialization();
     check_receptions();

@@ -19,7 +19,7 @@ static union value n825v(void)
     v.report.latitude = 0x1FEF15;
     v.report.longitude = 0xA88978 - 0x1000000;
     v.report.altitude_mark = 0;
-    v.report.altitude = 240; /* 5,000 feet */
+    v.report.altitude.steps = 240; /* 5,000 feet */
     v.report.track_kind = 1;
     v.report.extrapolated = false;
     v.report.airborne = true;
@@ -90,7 +90,7 @@ static void check_whole_reports(void)
     v.report.address = 0xA1B2C3;
     v.report.latitude = 0x2B3C4D;
     v.report.longitude = 0x987654 - 0x1000000;
-    v.report.altitude = 0x789;
+    v.report.altitude.steps = 0x789;
     v.report.track_kind = 3;
     v.report.extrapolated = true;
     v.report.airborne = false;
@@ -147,13 +147,13 @@ static void check_altitude_and_speed(void)
 {
     union value v;
 
-    REPORT(altitude, 0), IS(ALTITUDE, "000");
-    REPORT(altitude, 0xFFE), IS(ALTITUDE, "FFE");
-    REPORT_2(altitude_mark, 1, altitude, 0), IS(ALTITUDE, "FFF");
-    REPORT_2(altitude_mark, 1, altitude, 65535), WRITTEN_AS(ALTITUDE, "FFF");
-    REPORT(altitude, 0xFFF), UNWRITTEN();
-    REPORT(altitude, 0x1000), UNWRITTEN();
-    REPORT(altitude, 65535), UNWRITTEN();
+    REPORT(altitude.steps, 0), IS(ALTITUDE, "000");
+    REPORT(altitude.steps, 0xFFE), IS(ALTITUDE, "FFE");
+    REPORT_2(altitude_mark, 1, altitude.steps, 0), IS(ALTITUDE, "FFF");
+    REPORT_2(altitude_mark, 1, altitude.steps, 65535), WRITTEN_AS(ALTITUDE, "FFF");
+    REPORT(altitude.steps, 0xFFF), UNWRITTEN();
+    REPORT(altitude.steps, 0x1000), UNWRITTEN();
+    REPORT(altitude.steps, 65535), UNWRITTEN();
     REPORT(altitude_mark, 2), UNWRITTEN();
     REPORT(altitude_mark, 255), UNWRITTEN();
     REPORT(speed, 0), IS(SPEED, "000");

@@ -6,6 +6,7 @@ use Prim.Native.Nat.{ℕ}
 use mathlib.Core.Bool.{cond}
 use lib.Dec.{eqb}
 use lib.IntN.{ℤ, pos}
+use Rattle.units.specs.declared.PressureSteps.{PressureSteps}
 use Rattle.message_types.specs.declared.Position.{Position}
 use Rattle.message_types.specs.declared.Position.the-variants as position
 use Rattle.message_types.specs.declared.Altitude.{Altitude}
@@ -38,13 +39,13 @@ abbrev pub altitudeMark : Altitude → ℕ
 altitudeMark (altitude.Known p) = 0
 altitudeMark altitude.None = 1
 
-abbrev pub altitudeSteps : Altitude → ℕ
-altitudeSteps (altitude.Known p) = p .steps
-altitudeSteps altitude.None = 0
+abbrev pub altitudeSteps : Altitude → PressureSteps
+altitudeSteps (altitude.Known d) = d
+altitudeSteps altitude.None = record { steps = 0 }
 
-unfoldable pub altitudeFrom : ℕ → ℕ → Altitude
-altitudeFrom mark n =
-    cond (eqb mark 0) (altitude.Known (record { steps = n })) (cond (eqb mark 1) altitude.None (altitude.Known (record { steps = 0xFFF })))
+unfoldable pub altitudeFrom : ℕ → PressureSteps → Altitude
+altitudeFrom mark d =
+    cond (eqb mark 0) (altitude.Known d) (cond (eqb mark 1) altitude.None (altitude.Known (record { steps = 0xFFF })))
 
 -- 001 Table 9
 abbrev pub trackNumber : TrackKind → ℕ

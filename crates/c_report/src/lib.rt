@@ -20,7 +20,7 @@ pub struct FlatReport {
     pub latitude: i32,
     pub longitude: i32,
     pub altitude_mark: u8,
-    pub altitude: u16,
+    pub altitude: PressureSteps,
     pub track_kind: u8,
     pub extrapolated: bool,
     pub airborne: bool,
@@ -106,20 +106,20 @@ fn altitude_mark(altitude: Altitude) -> u8
     }
 }
 
-fn altitude_steps(altitude: Altitude) -> u16
+fn altitude_steps(altitude: Altitude) -> PressureSteps
     ensures { λ r. ⌜ r ≡ altitudeSteps altitude ⌝ }
 {
     match altitude {
-        Altitude::Known(p) => p.steps,
-        Altitude::None => 0,
+        Altitude::Known(steps) => steps,
+        Altitude::None => PressureSteps { steps: 0 },
     }
 }
 
-fn altitude_from(mark: u8, steps: u16) -> Altitude
+fn altitude_from(mark: u8, steps: PressureSteps) -> Altitude
     ensures { λ r. ⌜ r ≡ altitudeFrom mark steps ⌝ }
 {
     if mark == 0 {
-        return Altitude::Known(PressureSteps { steps });
+        return Altitude::Known(steps);
     }
     if mark == 1 {
         return Altitude::None;
@@ -266,8 +266,9 @@ pub fn flat_report(report: Report) -> FlatReport
 pub fn report_from(flat: FlatReport) -> Report
     ensures { λ r. ⌜ r ≡ reportFrom flat ⌝ }
 {
+    let steps = flat.altitude;
     let position = position_from(flat.position_mark, flat.latitude, flat.longitude);
-    let altitude = altitude_from(flat.altitude_mark, flat.altitude);
+    let altitude = altitude_from(flat.altitude_mark, steps);
     let speed = speed_from(flat.speed_mark, flat.speed);
     let climb = climb_from(flat.climb_mark, flat.climb);
     let call_sign = flat.call_sign;

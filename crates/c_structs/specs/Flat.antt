@@ -5,7 +5,8 @@
 use Prim.Native.Nat.{ℕ}
 use mathlib.Core.Bool.{cond}
 use lib.Dec.{eqb}
-use lib.IntN.{ℤ, pos, negsuc}
+use lib.IntN.{pos, negsuc}
+use Rattle.units.specs.declared.TerrainFeet.{TerrainFeet}
 use Rattle.message_types.specs.declared.Reception.{Reception}
 use Rattle.message_types.specs.declared.Reception.the-variants as reception
 use Rattle.message_types.specs.declared.Height.{Height}
@@ -40,13 +41,13 @@ abbrev pub heightMark : Height → ℕ
 heightMark (height.Feet h) = 0
 heightMark height.None = 1
 
-abbrev pub heightFeet : Height → ℤ
-heightFeet (height.Feet h) = h .feet
-heightFeet height.None = pos 0
+abbrev pub heightFeet : Height → TerrainFeet
+heightFeet (height.Feet h) = h
+heightFeet height.None = record { feet = pos 0 }
 
-unfoldable pub heightFrom : ℕ → ℤ → Height
-heightFrom mark z =
-    cond (eqb mark 0) (height.Feet (record { feet = z })) (cond (eqb mark 1) height.None (height.Feet (record { feet = negsuc 0x7FFF })))
+unfoldable pub heightFrom : ℕ → TerrainFeet → Height
+heightFrom mark h =
+    cond (eqb mark 0) (height.Feet h) (cond (eqb mark 1) height.None (height.Feet (record { feet = negsuc 0x7FFF })))
 
 -- the figure of merit
 abbrev pub meritMark : Merit → ℕ
@@ -78,14 +79,14 @@ terrainFrom f = record { height = heightFrom (f .«height_mark») (f .height) }
 
 abbrev pub flatGeometric : GeometricAltitude → FlatGeometric
 flatGeometric g = record {
-  altitude = g .altitude .steps;
+  altitude = g .altitude;
   warning = g .warning;
   «merit_mark» = meritMark (g .merit);
   merit = meritMetres (g .merit);
 }
 
 abbrev pub geometricFrom : FlatGeometric → GeometricAltitude
-geometricFrom f = record { altitude = record { steps = f .altitude }; warning = f .warning; merit = meritFrom (f .«merit_mark») (f .merit) }
+geometricFrom f = record { altitude = f .altitude; warning = f .warning; merit = meritFrom (f .«merit_mark») (f .merit) }
 
 abbrev pub flatBasic : BasicPassThrough → FlatBasic
 flatBasic p = record {

@@ -23,12 +23,12 @@ pub struct FlatUplink {
 #[repr(C)]
 pub struct FlatHeight {
     pub height_mark: u8,
-    pub height: i16,
+    pub height: TerrainFeet,
 }
 
 #[repr(C)]
 pub struct FlatGeometric {
-    pub altitude: i16,
+    pub altitude: GeometricSteps,
     pub warning: bool,
     pub merit_mark: u8,
     pub merit: u16,
@@ -127,20 +127,20 @@ fn height_mark(height: Height) -> u8
     }
 }
 
-fn height_feet(height: Height) -> i16
+fn height_feet(height: Height) -> TerrainFeet
     ensures { λ r. ⌜ r ≡ heightFeet height ⌝ }
 {
     match height {
-        Height::Feet(h) => h.feet,
-        Height::None => 0,
+        Height::Feet(feet) => feet,
+        Height::None => TerrainFeet { feet: 0 },
     }
 }
 
-fn height_from(mark: u8, feet: i16) -> Height
+fn height_from(mark: u8, feet: TerrainFeet) -> Height
     ensures { λ r. ⌜ r ≡ heightFrom mark feet ⌝ }
 {
     if mark == 0 {
-        return Height::Feet(TerrainFeet { feet });
+        return Height::Feet(feet);
     }
     if mark == 1 {
         return Height::None;
@@ -213,7 +213,8 @@ pub fn flat_height(value: HeightAboveTerrain) -> FlatHeight
 pub fn terrain_from(flat: FlatHeight) -> HeightAboveTerrain
     ensures { λ r. ⌜ r ≡ terrainFrom flat ⌝ }
 {
-    let height = height_from(flat.height_mark, flat.height);
+    let feet = flat.height;
+    let height = height_from(flat.height_mark, feet);
     HeightAboveTerrain { height }
 }
 
@@ -223,7 +224,7 @@ pub fn flat_geometric(value: GeometricAltitude) -> FlatGeometric
     let altitude = value.altitude;
     let merit = value.merit;
     FlatGeometric {
-        altitude: altitude.steps,
+        altitude,
         warning: value.warning,
         merit_mark: merit_mark(merit),
         merit: merit_metres(merit),
@@ -234,10 +235,9 @@ pub fn geometric_from(flat: FlatGeometric) -> GeometricAltitude
     ensures { λ r. ⌜ r ≡ geometricFrom flat ⌝ }
 {
     let merit = merit_from(flat.merit_mark, flat.merit);
+    let altitude = flat.altitude;
     GeometricAltitude {
-        altitude: GeometricSteps {
-            steps: flat.altitude,
-        },
+        altitude,
         warning: flat.warning,
         merit,
     }

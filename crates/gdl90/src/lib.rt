@@ -564,24 +564,24 @@ pub extern "C" fn gdl90_add(payload: &mut [u8], kind: u8, bytes: &[u8]) -> u8
 
 // Feet, from each of the three units, for every value of its width.
 #[no_mangle]
-pub extern "C" fn gdl90_pressure_feet(steps: u16) -> i32
-    ensures { λ r. ⌜ r ≡ pressureFeet (record { steps = steps }) ⌝ }
+pub extern "C" fn gdl90_pressure_feet(altitude: PressureSteps) -> i32
+    ensures { λ r. ⌜ r ≡ pressureFeet altitude ⌝ }
 {
-    PressureSteps { steps }.feet()
+    altitude.feet()
 }
 
 #[no_mangle]
-pub extern "C" fn gdl90_geometric_feet(steps: i16) -> i32
-    ensures { λ r. ⌜ r ≡ geometricFeet (record { steps = steps }) ⌝ }
+pub extern "C" fn gdl90_geometric_feet(geometric: GeometricSteps) -> i32
+    ensures { λ r. ⌜ r ≡ geometricFeet geometric ⌝ }
 {
-    GeometricSteps { steps }.feet()
+    geometric.feet()
 }
 
 #[no_mangle]
-pub extern "C" fn gdl90_terrain_feet(feet: i16) -> i32
-    ensures { λ r. ⌜ r ≡ terrainFeet (record { feet = feet }) ⌝ }
+pub extern "C" fn gdl90_terrain_feet(height: TerrainFeet) -> i32
+    ensures { λ r. ⌜ r ≡ terrainFeet height ⌝ }
 {
-    TerrainFeet { feet }.feet()
+    height.feet()
 }
 
 // 01's number; two step numbers in degrees, 0 with a refusal.

@@ -84,7 +84,7 @@ reportRefused k = record {
     latitude = pos 0;
     longitude = pos 0;
     «altitude_mark» = 0;
-    altitude = 0;
+    altitude = record { steps = 0 };
     «track_kind» = 0;
     extrapolated = false;
     airborne = false;

@@ -85,7 +85,7 @@ fn report_refused(number: u8) -> FlatReportRead
         latitude: 0,
         longitude: 0,
         altitude_mark: 0,
-        altitude: 0,
+        altitude: PressureSteps { steps: 0 },
         track_kind: 0,
         extrapolated: false,
         airborne: false,

@@ -5,16 +5,19 @@ ghost use Rattle.units.specs.Degrees.{degrees, inDegrees, ExactlyAt};
 ghost use Rattle.units.specs.Feet.{pressureFeet, geometricFeet, terrainFeet};
 
 // Pressure altitude in steps of 25 feet, from 1,000 feet below zero on.
+#[repr(C)]
 pub struct PressureSteps {
     pub steps: u16,
 }
 
 // Geometric altitude in steps of 5 feet.
+#[repr(C)]
 pub struct GeometricSteps {
     pub steps: i16,
 }
 
 // Height above terrain in feet.
+#[repr(C)]
 pub struct TerrainFeet {
     pub feet: i16,
 }

@@ -7,7 +7,7 @@ use std::fmt::Debug;
 
 use compare::messages::to_reference;
 use gdl90::raw::{self, BELOW, NONE, NUMBER, OVER};
-use gdl90::{Message, MESSAGE_MAX};
+use gdl90::{GeometricSteps, Message, PressureSteps, TerrainFeet, MESSAGE_MAX};
 
 /// Written and read again, field by field; answers the message.
 fn assert_fields<Raw, Value>(
@@ -111,11 +111,11 @@ fn uplinks() {
 
 #[test]
 fn heights() {
-    let heights = [0x1234, -0x1234, 32_767, -32_767].map(|height| (NUMBER, height));
-    for (height_mark, height) in heights.into_iter().chain([(NONE, 0)]) {
+    let heights = [0x1234, -0x1234, 32_767, -32_767].map(|feet| (NUMBER, feet));
+    for (height_mark, feet) in heights.into_iter().chain([(NONE, 0)]) {
         let raw = raw::Height {
             height_mark,
-            height,
+            height: TerrainFeet(feet),
         };
         assert_fields(raw, Message::Height, raw::write_height, raw::read_height);
     }
@@ -123,9 +123,9 @@ fn heights() {
 
 #[test]
 fn geometric_altitudes() {
-    let check = |altitude, warning, merit_mark, merit| {
+    let check = |steps, warning, merit_mark, merit| {
         let raw = raw::Geometric {
-            altitude,
+            altitude: GeometricSteps(steps),
             warning,
             merit_mark,
             merit,
@@ -180,7 +180,7 @@ const DISTINCT: raw::Report = raw::Report {
     latitude: 0x2B_964D,
     longitude: -0x4E_210C,
     altitude_mark: NUMBER,
-    altitude: 0x9C7,
+    altitude: PressureSteps(0x9C7),
     track_kind: 2,
     extrapolated: true,
     airborne: true,
@@ -215,7 +215,7 @@ fn extremes_of_reports() {
         address: 0xFF_FFFF,
         latitude: 4_194_304,
         longitude: 8_388_607,
-        altitude: 4_094,
+        altitude: PressureSteps(4_094),
         track_kind: 3,
         extrapolated: false,
         speed: 4_093,
@@ -229,7 +229,7 @@ fn extremes_of_reports() {
         address: 0,
         latitude: -4_194_304,
         longitude: -8_388_608,
-        altitude: 0,
+        altitude: PressureSteps(0),
         track_kind: 0,
         extrapolated: true,
         airborne: false,
@@ -247,7 +247,7 @@ fn marks_of_reports() {
             latitude: 0,
             longitude: 0,
             altitude_mark: NONE,
-            altitude: 0,
+            altitude: PressureSteps(0),
             integrity: 0,
             speed_mark,
             speed: 0,

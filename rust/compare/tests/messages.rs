@@ -74,9 +74,16 @@ fn uplink_answer(message: &[u8]) -> Result<gdl90::Uplink<'_>, u8> {
     Ok(uplink)
 }
 
-/// By the function that looks for the kind, and by the kind's own.
+/// By the function that looks for the kind, and by the kind's own. There is no
+/// kind exactly if reading answers 6 (01).
 fn assert_readings_agree(message: &[u8]) {
     let expected = reference::messages::read(message);
+    let kind = raw::kind(message);
+    let expected_kind = match expected {
+        Err(NOT_LISTED) => (NOT_LISTED, 0),
+        _ => (0, message[0]),
+    };
+    assert_eq!((kind.number, kind.value), expected_kind, "{message:02X?}");
     let value = gdl90::Message::read(message);
     let answer = value.map(to_reference).map_err(Error::number);
     assert_eq!(answer, expected, "{message:02X?}");
@@ -211,29 +218,20 @@ fn every_id_with_every_length_agrees() {
     }
 }
 
-/// Whether one function reads both: ownship and traffic share theirs.
-fn read_together(id: u8, other: u8) -> bool {
-    let is_report = |id| id == OWNSHIP_ID || id == TRAFFIC_ID;
-    id == other || is_report(id) && is_report(other)
-}
-
 /// A kind's function knows no id but its own.
 #[test]
 fn messages_of_other_kinds_are_not_listed() {
     let mut random = Xorshift::new(25);
     for (id, length) in LENGTHS {
         assert_eq!(read_as(id, &[]), Err(NOT_LISTED));
-        for other in (0..=255).filter(|&other| !read_together(id, other)) {
+        for other in (0..=255).filter(|&other| other != id) {
             let mut message = samples::whole(&mut random, id);
             message[0] = other;
             assert_eq!(read_as(id, &message), Err(NOT_LISTED), "{message:02X?}");
             message.truncate(random.below(length));
             assert_eq!(read_as(id, &message), Err(NOT_LISTED), "{message:02X?}");
         }
-        for (other, _) in LENGTHS
-            .into_iter()
-            .filter(|&(other, _)| !read_together(id, other))
-        {
+        for (other, _) in LENGTHS.into_iter().filter(|&(other, _)| other != id) {
             let message = samples::whole(&mut random, other);
             assert_eq!(read_as(id, &message), Err(NOT_LISTED), "{message:02X?}");
         }
@@ -437,9 +435,9 @@ fn numbers_with_marks_are_not_looked_at() {
         ..raw::Long::default()
     });
     assert_written_alike(longs, raw::write_long);
-    let heights = [0, i16::MIN].map(|height| raw::Height {
+    let heights = [0, i16::MIN].map(|feet| raw::Height {
         height_mark: NONE,
-        height,
+        height: gdl90::TerrainFeet(feet),
     });
     assert_written_alike(heights, raw::write_height);
     for merit_mark in [NONE, OVER] {
@@ -465,7 +463,7 @@ fn numbers_with_marks_of_a_report_are_not_looked_at() {
         let others = raw::Report {
             latitude: i32::MIN,
             longitude: i32::MAX,
-            altitude: u16::MAX,
+            altitude: gdl90::PressureSteps(u16::MAX),
             speed: u16::MAX,
             climb: i32::MIN,
             ..zeros

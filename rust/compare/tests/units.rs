@@ -10,15 +10,15 @@ const STEPS: std::ops::RangeInclusive<i32> = -8_388_608..=8_388_607;
 #[test]
 fn every_number_of_feet_agrees() {
     for number in 0..=u16::MAX {
-        let feet = AltitudeSteps(number).feet();
-        assert_eq!(raw::pressure_feet(number), feet);
-        assert_eq!(PressureSteps(number).feet(), feet);
+        let (altitude, feet) = (PressureSteps(number), AltitudeSteps(number).feet());
+        assert_eq!(raw::pressure_feet(altitude), feet);
+        assert_eq!(altitude.feet(), feet);
         let number = number as i16;
-        let feet = FiveFootSteps(number).feet();
-        assert_eq!(raw::geometric_feet(number), feet);
-        assert_eq!(GeometricSteps(number).feet(), feet);
+        let (altitude, feet) = (GeometricSteps(number), FiveFootSteps(number).feet());
+        assert_eq!(raw::geometric_feet(altitude), feet);
+        assert_eq!(altitude.feet(), feet);
         let feet = reference::messages::TerrainFeet(number).feet();
-        assert_eq!(raw::terrain_feet(number), feet);
+        assert_eq!(raw::terrain_feet(TerrainFeet(number)), feet);
         assert_eq!(TerrainFeet(number).feet(), feet);
     }
 }
@@ -26,7 +26,7 @@ fn every_number_of_feet_agrees() {
 /// Values 9 of 01.
 #[test]
 fn altitudes_of_01() {
-    let feet = [0x000, 0x028, 0xFFE].map(raw::pressure_feet);
+    let feet = [0x000, 0x028, 0xFFE].map(|steps| raw::pressure_feet(PressureSteps(steps)));
     assert_eq!(feet, [-1_000, 0, 101_350]);
 }
 

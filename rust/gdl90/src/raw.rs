@@ -1,5 +1,6 @@
 //! The C functions as they are: the structs of include/gdl90.h, and each
-//! function with slices for pointers and lengths.
+//! function with slices for pointers and lengths. The units of altitude are
+//! [`PressureSteps`], [`GeometricSteps`] and [`TerrainFeet`] here too.
 //!
 //! Every function takes every input and ends. A refusal leaves lent memory as it
 //! was; only [`feed`] goes on, as the room is part of its state. The rest of this
@@ -12,6 +13,8 @@ pub use values::{
     Initialization, ListAnswer, Long, NthAnswer, PassThrough, Read, Report, Uplink, WriteAnswer,
     BELOW, NONE, NUMBER, OVER,
 };
+
+use crate::units::{GeometricSteps, PressureSteps, TerrainFeet};
 
 /// The longest message, an uplink (01).
 pub const MESSAGE_MAX: usize = 436;
@@ -49,9 +52,9 @@ extern "C" {
         data: *const u8,
         data_len: usize,
     ) -> u8;
-    fn gdl90_pressure_feet(steps: u16) -> i32;
-    fn gdl90_geometric_feet(steps: i16) -> i32;
-    fn gdl90_terrain_feet(feet: i16) -> i32;
+    fn gdl90_pressure_feet(altitude: PressureSteps) -> i32;
+    fn gdl90_geometric_feet(altitude: GeometricSteps) -> i32;
+    fn gdl90_terrain_feet(height: TerrainFeet) -> i32;
     fn gdl90_degrees(latitude: i32, longitude: i32) -> DegreesAnswer;
 }
 
@@ -201,23 +204,23 @@ pub fn add(payload: &mut [u8], kind: u8, data: &[u8]) -> u8 {
 
 /// Feet of a report's altitude, 25 feet a step from -1,000 feet on.
 #[inline]
-pub fn pressure_feet(steps: u16) -> i32 {
-    // SAFETY: a number by value; no memory is lent.
-    unsafe { gdl90_pressure_feet(steps) }
+pub fn pressure_feet(altitude: PressureSteps) -> i32 {
+    // SAFETY: a struct of one number by value; no memory is lent.
+    unsafe { gdl90_pressure_feet(altitude) }
 }
 
 /// Feet of a geometric altitude, 5 feet a step.
 #[inline]
-pub fn geometric_feet(steps: i16) -> i32 {
+pub fn geometric_feet(altitude: GeometricSteps) -> i32 {
     // SAFETY: as in `pressure_feet`.
-    unsafe { gdl90_geometric_feet(steps) }
+    unsafe { gdl90_geometric_feet(altitude) }
 }
 
 /// Feet of a height above terrain.
 #[inline]
-pub fn terrain_feet(feet: i16) -> i32 {
+pub fn terrain_feet(height: TerrainFeet) -> i32 {
     // SAFETY: as in `pressure_feet`.
-    unsafe { gdl90_terrain_feet(feet) }
+    unsafe { gdl90_terrain_feet(height) }
 }
 
 /// A position in degrees: 8 for a number of steps that 24 bits do not hold.

@@ -1,4 +1,5 @@
-//! Altitudes in three units, each with its own way to feet, and degrees.
+//! Altitudes in three units, each with its own way to feet, and degrees. The units
+//! are laid out as in include/gdl90.h, so that `raw` has no others.
 
 use std::fmt;
 
@@ -8,17 +9,20 @@ use crate::raw;
 /// Pressure altitude in steps of 25 feet from -1,000 feet on.
 ///
 /// Can be written: 0 to 4,094.
-#[derive(Clone, Copy, Debug, PartialEq, Eq, Hash, PartialOrd, Ord)]
+#[repr(C)]
+#[derive(Clone, Copy, Debug, PartialEq, Eq, Hash, PartialOrd, Ord, Default)]
 pub struct PressureSteps(pub u16);
 
 /// Geometric altitude in steps of 5 feet.
-#[derive(Clone, Copy, Debug, PartialEq, Eq, Hash, PartialOrd, Ord)]
+#[repr(C)]
+#[derive(Clone, Copy, Debug, PartialEq, Eq, Hash, PartialOrd, Ord, Default)]
 pub struct GeometricSteps(pub i16);
 
 /// Height above terrain in feet.
 ///
 /// Can be written: -32,767 to 32,767.
-#[derive(Clone, Copy, Debug, PartialEq, Eq, Hash, PartialOrd, Ord)]
+#[repr(C)]
+#[derive(Clone, Copy, Debug, PartialEq, Eq, Hash, PartialOrd, Ord, Default)]
 pub struct TerrainFeet(pub i16);
 
 impl PressureSteps {
@@ -30,7 +34,7 @@ impl PressureSteps {
     /// ```
     #[inline]
     pub fn feet(self) -> i32 {
-        raw::pressure_feet(self.0)
+        raw::pressure_feet(self)
     }
 }
 
@@ -42,7 +46,7 @@ impl GeometricSteps {
     /// ```
     #[inline]
     pub fn feet(self) -> i32 {
-        raw::geometric_feet(self.0)
+        raw::geometric_feet(self)
     }
 }
 
@@ -54,7 +58,7 @@ impl TerrainFeet {
     /// ```
     #[inline]
     pub fn feet(self) -> i32 {
-        raw::terrain_feet(self.0)
+        raw::terrain_feet(self)
     }
 }
 

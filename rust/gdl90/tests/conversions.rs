@@ -29,7 +29,7 @@ where
 fn marks() {
     assert_marks::<_, HeightAboveTerrain>(NONE, |height_mark| raw::Height {
         height_mark,
-        height: 0,
+        ..Default::default()
     });
     assert_marks::<_, GeometricAltitude>(OVER, |merit_mark| raw::Geometric {
         merit_mark,

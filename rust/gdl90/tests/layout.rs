@@ -1,4 +1,4 @@
-//! The structs of `raw` lie in memory as a C compiler lays out those of
+//! The structs of `raw`, and the units in them, lie in memory as a C compiler lays out those of
 //! include/gdl90.h, which tests/layout.c prints; no struct and no function of the
 //! header is left out.
 
@@ -10,6 +10,7 @@ use std::process::{Command, Stdio};
 use std::sync::OnceLock;
 
 use gdl90::raw::*;
+use gdl90::{GeometricSteps, PressureSteps, TerrainFeet};
 
 fn root() -> PathBuf {
     Path::new(env!("CARGO_MANIFEST_DIR")).join("../..")
@@ -51,9 +52,9 @@ fn size_and_sort<S, F>(_: fn(&S) -> &F) -> (usize, &'static str) {
 /// Lines as the C program prints them. A field's name in C is put behind its name
 /// in Rust where the two differ.
 macro_rules! layout {
-    (@name $rust:ident $c:ident) => { stringify!($c) };
-    (@name $rust:ident) => { stringify!($rust) };
-    ($($name:ident: $type:ty { $($field:ident $(as $c:ident)?),* })*) => {{
+    (@name $rust:tt $c:ident) => { stringify!($c) };
+    (@name $rust:tt) => { stringify!($rust) };
+    ($($name:ident: $type:ty { $($field:tt $(as $c:ident)?),* })*) => {{
         let mut lines = Vec::new();
         $(
             let name = stringify!($name);
@@ -118,6 +119,9 @@ fn payloads() -> Vec<String> {
 
 fn units() -> Vec<String> {
     layout! {
+        gdl90_pressure_steps: PressureSteps { 0 as steps }
+        gdl90_geometric_steps: GeometricSteps { 0 as steps }
+        gdl90_feet_above_terrain: TerrainFeet { 0 as feet }
         gdl90_degrees_answer: DegreesAnswer { number, latitude, longitude }
     }
 }

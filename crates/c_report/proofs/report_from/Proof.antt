@@ -21,7 +21,10 @@ track-from-requires : tie.Need-track-from-requires
 track-from-requires c κs = search needs
 
 returns : tie.Need-returns
-returns c = simp (c .before .before .before .before .before .before .position-from .ensures, back32 (c .before .before .before .before .before .before .before .before .before .args .flat .latitude) (c .before .before .before .before .before .before .before .struct-told2 .given .1 .1 .1 .1 .0 .1), back32 (c .before .before .before .before .before .before .before .before .before .args .flat .longitude) (c .before .before .before .before .before .before .before .struct-told2 .given .1 .1 .1 .1 .1 .0 .1), c .before .before .before .before .before .altitude-from .ensures, c .before .before .before .before .speed-from .ensures, c .before .before .climb-from .ensures, back32 (c .before .before .before .before .before .before .before .before .before .args .flat .climb) (c .before .before .before .struct-told3 .given .1 .1 .1 .1 .1 .1 .1 .1 .1 .1 .1 .1 .1 .1 .1 .1 .0 .1), c .track-from .ensures)
+returns c =
+    let d = c .before .before .before .before .before .before in
+    let flat = d .before .before .before .before .args .flat in
+    simp (d .position-from .ensures, back32 (flat .latitude) (d .before .struct-told2 .given .1 .1 .1 .1 .0 .1), back32 (flat .longitude) (d .before .struct-told2 .given .1 .1 .1 .1 .1 .0 .1), c .before .before .before .before .before .altitude-from .ensures, c .before .before .before .before .speed-from .ensures, c .before .before .climb-from .ensures, back32 (flat .climb) (c .before .before .before .struct-told3 .given .1 .1 .1 .1 .1 .1 .1 .1 .1 .1 .1 .1 .1 .1 .1 .1 .0 .1), c .track-from .ensures)
 
 pub report-from-spec : {M : Type 1} → statement M
 report-from-spec =

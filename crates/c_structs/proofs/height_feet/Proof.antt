@@ -1,9 +1,6 @@
 -- `c_structs::height_feet` meets its contract, by the case.
 -- Assumes nothing.
-use mathlib.Core.Path.{sym, ap, refl, _∙_}
-use mir.Syntax.{w16}
-use Rattle.numbers.proofs.Signed.{back}
-use Rattle.c_structs.specs.Flat.{heightFeet}
+use mathlib.Core.Path.{refl}
 use borrow.Author.Needs.{needs}
 use Rattle.c_structs.proofs.height_feet.Statement.{statement}
 use Rattle.c_structs.proofs.height_feet.Tie as tie
@@ -15,7 +12,7 @@ enum-told : tie.Need-enum-told
 enum-told c = search needs
 
 returns : tie.Need-returns
-returns c = back w16 _ (c .struct-told .given .0 .1) ∙ sym (ap heightFeet (c .before .before .height .given .1))
+returns c = search needs
 
 returns-2 : tie.Need-returns-2
 returns-2 c = rw (c .enum-told .given .1) refl

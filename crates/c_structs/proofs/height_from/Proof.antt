@@ -1,6 +1,5 @@
 -- `c_structs::height_from` meets its contract, by the mark.
 -- Assumes nothing.
-use mir.Facts.{toZ-ofZ}
 use borrow.Author.Tests.{eq-eqb, ne-eqb}
 use Rattle.c_structs.specs.Flat.{heightFrom}
 use Rattle.c_structs.proofs.height_from.Statement.{statement}
@@ -8,7 +7,7 @@ use Rattle.c_structs.proofs.height_from.Tie as tie
 
 returns : tie.Need-returns
 unfolding heightFrom
-returns c = simp (eq-eqb _ 0 (c .if1 .taken), toZ-ofZ (c .before .fits .feet))
+returns c = simp (eq-eqb _ 0 (c .if1 .taken))
 
 returns-2 : tie.Need-returns-2
 unfolding heightFrom

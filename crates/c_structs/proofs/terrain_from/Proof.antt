@@ -1,7 +1,5 @@
 -- `c_structs::terrain_from` meets its contract, field by field.
 -- Assumes nothing.
-use mir.Syntax.{w16}
-use Rattle.numbers.proofs.Signed.{back}
 use borrow.Author.Needs.{needs}
 use Rattle.c_structs.proofs.terrain_from.Statement.{statement}
 use Rattle.c_structs.proofs.terrain_from.Tie as tie
@@ -10,7 +8,7 @@ height-from-requires : tie.Need-height-from-requires
 height-from-requires c κs = search needs
 
 returns : tie.Need-returns
-returns c = simp (c .height-from .ensures, back w16 (c .before .before .args .flat .height) (c .before .struct-told .given .1 .0 .1))
+returns c = simp (c .height-from .ensures)
 
 pub terrain-from-spec : {M : Type 1} → statement M
 terrain-from-spec = tie.close (tie.spec height-from-requires returns)

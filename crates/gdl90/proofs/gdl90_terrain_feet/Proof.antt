@@ -1,7 +1,6 @@
 -- `gdl90::gdl90_terrain_feet` meets its contract: what `units::TerrainFeet::feet` answers.
 -- Assumes nothing.
 use mathlib.Core.Path.{_∙_}
-use mir.Facts.{toZ-ofZ}
 use Rattle.units.proofs.Wide.{back32}
 use borrow.Author.Needs.{needs}
 use Rattle.gdl90.proofs.gdl90_terrain_feet.Statement.{statement}
@@ -11,7 +10,7 @@ feet-requires : tie.Need-feet-requires
 feet-requires c κs = search needs
 
 returns : tie.Need-returns
-returns c = back32 _ (c .feet .ok) ∙ c .feet .ensures ∙ toZ-ofZ (c .before .fits .feet)
+returns c = back32 _ (c .feet .ok) ∙ c .feet .ensures
 
 pub gdl90-terrain-feet-spec : {M : Type 1} → statement M
 gdl90-terrain-feet-spec = tie.close (tie.spec feet-requires returns)

@@ -13,7 +13,7 @@ pub struct HeightAboveTerrain(pub Option<TerrainFeet>);
 impl From<HeightAboveTerrain> for raw::Height {
     #[inline]
     fn from(HeightAboveTerrain(height): HeightAboveTerrain) -> Self {
-        let (height_mark, height) = marked(height.map(|TerrainFeet(feet)| feet));
+        let (height_mark, height) = marked(height);
         Self {
             height_mark,
             height,
@@ -27,7 +27,7 @@ impl TryFrom<raw::Height> for HeightAboveTerrain {
 
     #[inline]
     fn try_from(raw: raw::Height) -> Result<Self, Error> {
-        Ok(Self(unmarked(raw.height_mark, TerrainFeet(raw.height))?))
+        Ok(Self(unmarked(raw.height_mark, raw.height)?))
     }
 }
 
@@ -69,7 +69,7 @@ impl From<GeometricAltitude> for raw::Geometric {
             None => (NONE, 0),
         };
         Self {
-            altitude: geometric.altitude.0,
+            altitude: geometric.altitude,
             warning: geometric.warning,
             merit_mark,
             merit,
@@ -84,7 +84,7 @@ impl TryFrom<raw::Geometric> for GeometricAltitude {
     #[inline]
     fn try_from(raw: raw::Geometric) -> Result<Self, Error> {
         Ok(Self {
-            altitude: GeometricSteps(raw.altitude),
+            altitude: raw.altitude,
             warning: raw.warning,
             merit: match raw.merit_mark {
                 OVER => Some(Merit::Over),

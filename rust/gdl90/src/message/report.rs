@@ -152,7 +152,7 @@ impl From<Report> for raw::Report {
     #[inline]
     fn from(report: Report) -> Self {
         let (position_mark, latitude, longitude) = raw_position(report.position);
-        let (altitude_mark, altitude) = marked(report.altitude.map(|PressureSteps(steps)| steps));
+        let (altitude_mark, altitude) = marked(report.altitude);
         let (speed_mark, speed) = raw_speed(report.speed);
         let (climb_mark, climb) = raw_climb(report.climb);
         Self {
@@ -199,7 +199,7 @@ impl TryFrom<raw::Report> for Report {
             address_type: raw.address_type,
             address: raw.address,
             position: unmarked(raw.position_mark, position)?,
-            altitude: unmarked(raw.altitude_mark, PressureSteps(raw.altitude))?,
+            altitude: unmarked(raw.altitude_mark, raw.altitude)?,
             track_kind: track_kind(raw.track_kind)?,
             extrapolated: raw.extrapolated,
             airborne: raw.airborne,

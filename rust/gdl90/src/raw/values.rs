@@ -5,6 +5,7 @@
 #![allow(missing_docs)]
 
 use crate::error::{accepted, Error};
+use crate::units::{GeometricSteps, PressureSteps, TerrainFeet};
 
 /// Mark: the field is a number.
 pub const NUMBER: u8 = 0;
@@ -99,7 +100,7 @@ pub struct Uplink {
 #[derive(Clone, Copy, Debug, PartialEq, Eq, Default)]
 pub struct Height {
     pub height_mark: u8,
-    pub height: i16,
+    pub height: TerrainFeet,
 }
 
 /// Numbers of an ownship's or a traffic report.
@@ -113,7 +114,7 @@ pub struct Report {
     pub latitude: i32,
     pub longitude: i32,
     pub altitude_mark: u8,
-    pub altitude: u16,
+    pub altitude: PressureSteps,
     pub track_kind: u8,
     pub extrapolated: bool,
     pub airborne: bool,
@@ -134,7 +135,7 @@ pub struct Report {
 #[repr(C)]
 #[derive(Clone, Copy, Debug, PartialEq, Eq, Default)]
 pub struct Geometric {
-    pub altitude: i16,
+    pub altitude: GeometricSteps,
     pub warning: bool,
     pub merit_mark: u8,
     pub merit: u16,
