@@ -142,7 +142,11 @@ static uint8_t print_long(const uint8_t *message, size_t length)
 /* The first byte says the kind; 6 is the number of an id that no kind has. */
 static uint8_t print_kind(const uint8_t *message, size_t length)
 {
-    switch (message[0]) {
+    struct gdl90_kind_answer kind = gdl90_kind(message, length);
+
+    if (kind.number != 0)
+        return kind.number;
+    switch (kind.id) {
     case GDL90_HEARTBEAT: return print_heartbeat(message, length);
     case GDL90_INITIALIZATION: return print_initialization(message, length);
     case GDL90_UPLINK: return print_uplink(message, length);
@@ -152,7 +156,7 @@ static uint8_t print_kind(const uint8_t *message, size_t length)
     case GDL90_TRAFFIC: return print_report("traffic", gdl90_read_traffic(message, length));
     case GDL90_BASIC: return print_basic(message, length);
     case GDL90_LONG: return print_long(message, length);
-    default: return 6;
+    default: return 6; /* a kind that this program does not know */
     }
 }
 

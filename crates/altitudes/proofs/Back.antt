@@ -7,19 +7,20 @@ use mathlib.Core.List.{[], _∷_}
 use native.Mathlib.Omega.{arith}
 use lib.Dec.{eqb, ltb, leb}
 use lib.ListN.{getD}
-use borrow.Author.Tests.{ne-eqb, le-leb, lt-leb, ltb-true, leb-true, leb-false, not-true}
-use Rattle.numbers.specs.Signed.{fieldOf}
+use borrow.Author.Tests.{eqb-false, ne-eqb, lt-ltb, le-leb, lt-leb, ltb-true, leb-true, leb-false, not-true}
+use Rattle.numbers.specs.Signed.{signedIn, fieldOf}
 use Rattle.numbers.proofs.Bytes.{byte-at, spread}
 use Rattle.numbers.proofs.Every.{both, chosen}
 use Rattle.numbers.proofs.Signed.{field-signed, signed-field}
+use Rattle.codec.proofs.Outcomes.{never-8}
 use Rattle.message_types.specs.declared.Height.{Height}
 use Rattle.message_types.specs.declared.Height.the-variants.{Feet, None}
 use Rattle.message_types.specs.declared.HeightAboveTerrain.{HeightAboveTerrain}
 use Rattle.message_types.specs.declared.Merit.{Merit}
 use Rattle.message_types.specs.declared.Merit.the-variants.{Metres, Over, None as no-merit}
-use Rattle.altitudes.specs.Height.{heightOf, heightField, goodHeight, terrainIn, terrainBytes}
-use Rattle.altitudes.specs.Geometric.{overMerit, meritOf, meritField, goodMerit, geometricIn, geometricBytes}
-use Rattle.altitudes.specs.Claims.{TypedHeight, TerrainWrittenRead, TerrainReadWritten, GeometricWrittenRead, GeometricReadWritten}
+use Rattle.altitudes.specs.Height.{heightOf, heightField, goodHeight, goodTerrain, terrainIn, terrainBytes, heightRefused}
+use Rattle.altitudes.specs.Geometric.{overMerit, meritOf, meritField, goodMerit, goodGeometric, geometricIn, geometricBytes, geometricRefused}
+use Rattle.altitudes.specs.Claims.{TypedHeight, TerrainWrittenRead, TerrainReadWritten, GeometricWrittenRead, GeometricReadWritten, NeverOutside}
 
 -- 16 bits as two bytes, high byte first
 joined : (n : ℕ) → 256 * (n / 256) + n % 256 ≡ n
@@ -105,3 +106,32 @@ geometric-read-written m long bytes id =
     let k-low : k % 256 ≡ getD m 4 0 = omega arith in
     simp (field-signed 0x8000 n (omega arith), n-high, n-low, merit-there k, k-high, k-low, split (getD m 3 0) c)
     (sym (spread 5 m long ∙ ap (λ (x : ℕ). x ∷ getD m 1 0 ∷ getD m 2 0 ∷ getD m 3 0 ∷ getD m 4 0 ∷ []) id))
+
+-- what any 16 bits, and any 15, hold is good
+height-good : (n : ℕ) → n < 0x10000 → goodHeight (heightOf n) ≡ true
+unfolding heightOf
+height-good n h = go (eqb n 0x8000) refl
+  where
+    go : (t : Bool) → eqb n 0x8000 ≡ t → goodHeight (cond t None (Feet (record { feet = signedIn 0x8000 n }))) ≡ true
+    go true e = refl
+    go false e = simp (field-signed 0x8000 n (omega arith), e)
+
+merit-good : (n : ℕ) → n < 0x8000 → goodMerit (meritOf n) ≡ true
+unfolding meritOf
+merit-good n h = go (eqb n 0x7FFF) refl (eqb n overMerit) refl
+  where
+    go : (s : Bool) → eqb n 0x7FFF ≡ s → (t : Bool) → eqb n overMerit ≡ t → goodMerit (cond s no-merit (cond t Over (Metres n))) ≡ true
+    go true e t f = refl
+    go false e true f = refl
+    go false e false f = let lower = eqb-false n 0x7FFF e in simp (lt-ltb n 0x7FFF (omega arith), f)
+
+pub never-outside : NeverOutside
+unfolding terrainIn geometricIn
+never-outside m bytes =
+    let b : (i : ℕ) → getD m i 0 < 256 = λ i. byte-at m i bytes in
+    let b1 = b 1 in
+    let b2 = b 2 in
+    let b4 = b 4 in (
+      never-8 9 3 terrainIn goodTerrain (λ x. record { number = 0; height = x }) heightRefused m (λ r. r .number) (λ k. refl) (λ x. refl) (height-good _ (omega arith)),
+      never-8 11 5 geometricIn goodGeometric (λ x. record { number = 0; geometric = x }) geometricRefused m (λ r. r .number) (λ k. refl) (λ x. refl) (merit-good _ (omega arith)),
+    )

@@ -7,12 +7,13 @@ use mathlib.Core.List.{List}
 use lib.ListN.{length, getD}
 use lib.Signed.{mag}
 use Rattle.numbers.specs.Bytes.{AreBytes}
+use Rattle.codec.specs.Reading.{misfit}
 use Rattle.message_types.specs.declared.Height.{Height}
 use Rattle.message_types.specs.declared.Height.the-variants.{Feet, None}
 use Rattle.message_types.specs.declared.HeightAboveTerrain.{HeightAboveTerrain}
 use Rattle.message_types.specs.declared.GeometricAltitude.{GeometricAltitude}
-use Rattle.altitudes.specs.Height.{goodTerrain, terrainIn, terrainBytes}
-use Rattle.altitudes.specs.Geometric.{goodGeometric, geometricIn, geometricBytes}
+use Rattle.altitudes.specs.Height.{goodTerrain, terrainIn, terrainBytes, heightRead}
+use Rattle.altitudes.specs.Geometric.{goodGeometric, geometricIn, geometricBytes, geometricRead}
 
 -- the feet are of their 16-bit type
 abbrev pub TypedHeight : Height → Type 0
@@ -24,6 +25,10 @@ TerrainWrittenRead = (h : HeightAboveTerrain) → TypedHeight (h .height) → go
 
 abbrev pub TerrainReadWritten : Type 0
 TerrainReadWritten = (m : List ℕ) → length m ≡ 3 → AreBytes m → getD m 0 0 ≡ 9 → terrainBytes (terrainIn m) ≡ m
+
+-- 8 is never given: every value of the bits is in range
+abbrev pub NeverOutside : Type 0
+NeverOutside = (m : List ℕ) → AreBytes m → (heightRead m .number ≡ misfit 9 3 m) × (geometricRead m .number ≡ misfit 11 5 m)
 
 -- the steps are of their 16-bit type
 abbrev pub GeometricWrittenRead : Type 0

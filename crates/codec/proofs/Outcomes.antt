@@ -83,6 +83,16 @@ module _ {X R : Type 0} (id size : ℕ) (value : List ℕ → X) (good : X → B
       go true e false g h = absurd (omega (arith, tells 8))
       go false e u g h = absurd (eqb-false _ 0 e (sym (tells _) ∙ h))
 
+  -- where the value that the bytes hold is good, 8 is not given
+  pub never-8 : (number : R → ℕ) → ((k : ℕ) → number (refusal k) ≡ k) → ((x : X) → number (accepted x) ≡ 0) → good (value m) ≡ true
+      → number (reading id size value good accepted refusal m) ≡ misfit id size m
+  unfolding reading
+  never-8 number tells zero g = simp g (go (eqb (misfit id size m) 0) refl)
+    where
+      go : (t : Bool) → eqb (misfit id size m) 0 ≡ t → number (cond t (accepted (value m)) (refusal (misfit id size m))) ≡ misfit id size m
+      go true e = zero (value m) ∙ sym (eqb-true _ 0 e)
+      go false e = tells _
+
   -- the tests apart
   abbrev pick : {S : Type 0} → (X → S) → (ℕ → S) → Bool → Bool → Bool → Bool → S
   pick taken left s t u v =

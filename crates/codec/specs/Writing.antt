@@ -10,7 +10,7 @@ use Rattle.numbers.specs.Lent.{written}
 use Rattle.codec.specs.declared.Written.{Written}
 use Rattle.codec.specs.declared.Written.the-variants.{Bytes, Refused}
 
--- 8 unless the value is good; then 9 exactly when the output, of `room` bytes, is shorter than the message
+-- 8 unless the value is good; then 9 exactly when the output is shorter than the message; `room` is its length
 unfoldable pub writing : Bool → List ℕ → ℕ → Written
 writing good bytes room = cond good (cond (leb (length bytes) room) (Bytes (length bytes)) (Refused 9)) (Refused 8)
 

@@ -11,7 +11,7 @@ pub enum Written {
     Refused(u8),
 }
 
-// 01's number where the bytes are no message of the kind with this id and length: 6, then 7; else 0.
+// 6 for no bytes or another id than the kind's; then 7 for another length than the kind's; 0 for neither.
 pub fn misfit(message: &[u8], id: u8, length: usize) -> u8
     ensures { λ r. ⌜ r ≡ misfit id length (now (message .entry)) ⌝ }
 {
@@ -27,7 +27,7 @@ pub fn misfit(message: &[u8], id: u8, length: usize) -> u8
     0
 }
 
-// The bytes to the start of the output, where there is room for them.
+// The bytes to the start of the output: 9 exactly when the output is shorter than the message.
 pub fn put(bytes: &[u8], out: &mut [u8]) -> Written
     ensures { λ r. ⌜ Wrote true (now (bytes .entry)) (now (out .entry)) r (now (out .exit)) ⌝ }
 {

@@ -56,6 +56,7 @@ impl Control {
 pub fn step(control: Control, room: &mut [u8; 438], message: &mut [u8; 436], byte: u8) -> Stepped
     ensures { λ r. ⌜ left r (now (room .exit)) (now (message .exit)) ≡ stepped (held control (now (room .entry))) (now (message .entry)) byte ⌝ }
 {
+    // a count over 438 is taken as the fresh state
     if 438 < control.count {
         let control = restarted(byte, room);
         return Stepped {
@@ -63,6 +64,7 @@ pub fn step(control: Control, room: &mut [u8; 438], message: &mut [u8; 436], byt
             answer: Answer::None,
         };
     }
+    // every flag closes one frame and opens the next
     if byte == 0x7E {
         let answer = close(control, room, message);
         let open = clear(Phase::Open, room);
@@ -272,7 +274,7 @@ pub fn fill(control: Control, room: &mut [u8; 438], bytes: &[u8]) -> Filled
     fill_within(usable, room, bytes)
 }
 
-// A state with a count over 438 is taken as the fresh one.
+// A count over 438 is taken as the fresh state.
 fn within(control: Control, room: &mut [u8; 438]) -> Control
     ensures { λ r. ⌜ held r (now (room .exit)) ≡ taken (held control (now (room .entry))) ⌝ }
 {

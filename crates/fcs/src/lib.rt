@@ -2,7 +2,7 @@
 ghost use mathlib.Core.Path.{_≡_};
 ghost use Rattle.fcs.specs.Fcs.{byteStep, fcs};
 
-// The check sequence of a message.
+// The check sequence of a message: from zero, over the message's bits and no more.
 pub fn check_sequence(message: &[u8]) -> u16
     ensures { λ r. ⌜ r ≡ fcs (now (message .entry)) ⌝ }
 {

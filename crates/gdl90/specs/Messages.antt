@@ -9,24 +9,34 @@ use lib.ListN.{length}
 use Rattle.numbers.specs.Lent.{written}
 use Rattle.codec.specs.declared.Written.{Written}
 use Rattle.codec.specs.Writing.{writtenNumber, writtenSize, writtenOutput, writing}
-use Rattle.altitudes.specs.Height.{heightRead}
-use Rattle.altitudes.specs.Geometric.{geometricRead}
-use Rattle.passing.specs.Uplink.{uplinkRead}
-use Rattle.passing.specs.PassThrough.{basicRead, longRead}
+use Rattle.heartbeat.specs.Heartbeat.{goodHeartbeat, heartbeatBytes}
+use Rattle.initialization.specs.Initialization.{goodInitialization, initializationBytes}
+use Rattle.altitudes.specs.Height.{heightRead, goodTerrain, terrainBytes}
+use Rattle.altitudes.specs.Geometric.{geometricRead, goodGeometric, geometricBytes}
+use Rattle.passing.specs.Uplink.{uplinkRead, uplinkBytes, writingUplink}
+use Rattle.passing.specs.PassThrough.{basicRead, longRead, goodBasicPassThrough, basicPassThroughBytes, goodLongPassThrough, longPassThroughBytes}
+use Rattle.message_types.specs.declared.Heartbeat.{Heartbeat}
+use Rattle.message_types.specs.declared.Initialization.{Initialization}
 use Rattle.message_types.specs.declared.Ownship.{Ownship}
 use Rattle.message_types.specs.declared.Traffic.{Traffic}
+use Rattle.report.specs.Bytes.{ownshipBytes, trafficBytes}
 use Rattle.report.specs.Reading.{goodReport}
 use Rattle.messages.specs.declared.Kind.{Kind}
 use Rattle.messages.specs.Message.{kindNumber, idOf}
 use Rattle.gdl90.specs.declared.KindAnswer.{KindAnswer}
 use Rattle.gdl90.specs.declared.WriteAnswer.{WriteAnswer}
 use Rattle.c_report.specs.declared.FlatReport.{FlatReport}
+use Rattle.c_structs.specs.declared.FlatUplink.{FlatUplink}
+use Rattle.c_structs.specs.declared.FlatHeight.{FlatHeight}
+use Rattle.c_structs.specs.declared.FlatGeometric.{FlatGeometric}
+use Rattle.c_structs.specs.declared.FlatBasic.{FlatBasic}
+use Rattle.c_structs.specs.declared.FlatLong.{FlatLong}
 use Rattle.c_structs.specs.declared.FlatUplinkRead.{FlatUplinkRead}
 use Rattle.c_structs.specs.declared.FlatHeightRead.{FlatHeightRead}
 use Rattle.c_structs.specs.declared.FlatGeometricRead.{FlatGeometricRead}
 use Rattle.c_structs.specs.declared.FlatBasicRead.{FlatBasicRead}
 use Rattle.c_structs.specs.declared.FlatLongRead.{FlatLongRead}
-use Rattle.c_structs.specs.Flat.{flatUplink, flatHeight, flatGeometric, flatBasic, flatLong}
+use Rattle.c_structs.specs.Flat.{flatUplink, uplinkFrom, flatHeight, terrainFrom, flatGeometric, geometricFrom, flatBasic, basicFrom, flatLong, longFrom}
 use Rattle.c_report.specs.Flat.{reportFrom}
 
 abbrev pub kindAnswer : Kind → KindAnswer
@@ -58,6 +68,28 @@ pub record AnsweredBy (w : Written) (bytes out : List ℕ) (answer : WriteAnswer
 abbrev pub AnsweredWriting : Bool → List ℕ → List ℕ → WriteAnswer → List ℕ → Type 0
 AnsweredWriting good bytes out answer left = AnsweredBy (writing good bytes (length out)) bytes out answer left
 
+-- what the function for each kind answers and leaves
+abbrev pub WritesHeartbeat : Heartbeat → List ℕ → WriteAnswer → List ℕ → Type 0
+WritesHeartbeat h = AnsweredWriting (goodHeartbeat h) (heartbeatBytes h)
+
+abbrev pub WritesInitialization : Initialization → List ℕ → WriteAnswer → List ℕ → Type 0
+WritesInitialization i = AnsweredWriting (goodInitialization i) (initializationBytes i)
+
+abbrev pub WritesUplink : FlatUplink → List ℕ → List ℕ → WriteAnswer → List ℕ → Type 0
+WritesUplink u payload out = AnsweredBy (writingUplink (uplinkFrom u) payload (length out)) (uplinkBytes (uplinkFrom u) payload) out
+
+abbrev pub WritesHeight : FlatHeight → List ℕ → WriteAnswer → List ℕ → Type 0
+WritesHeight h = AnsweredWriting (goodTerrain (terrainFrom h)) (terrainBytes (terrainFrom h))
+
+abbrev pub WritesGeometric : FlatGeometric → List ℕ → WriteAnswer → List ℕ → Type 0
+WritesGeometric g = AnsweredWriting (goodGeometric (geometricFrom g)) (geometricBytes (geometricFrom g))
+
+abbrev pub WritesBasic : FlatBasic → List ℕ → WriteAnswer → List ℕ → Type 0
+WritesBasic b = AnsweredWriting (goodBasicPassThrough (basicFrom b)) (basicPassThroughBytes (basicFrom b))
+
+abbrev pub WritesLong : FlatLong → List ℕ → WriteAnswer → List ℕ → Type 0
+WritesLong l = AnsweredWriting (goodLongPassThrough (longFrom l)) (longPassThroughBytes (longFrom l))
+
 abbrev pub ownshipFrom : FlatReport → Ownship
 ownshipFrom f = record { report = reportFrom f }
 
@@ -67,3 +99,9 @@ trafficFrom f = record { report = reportFrom f }
 -- a number that is no track kind is a field outside its range
 abbrev pub goodFlatReport : FlatReport → Bool
 goodFlatReport f = leb (f .«track_kind») 3 && goodReport (reportFrom f)
+
+abbrev pub WritesOwnship : FlatReport → List ℕ → WriteAnswer → List ℕ → Type 0
+WritesOwnship f = AnsweredWriting (goodFlatReport f) (ownshipBytes (ownshipFrom f))
+
+abbrev pub WritesTraffic : FlatReport → List ℕ → WriteAnswer → List ℕ → Type 0
+WritesTraffic f = AnsweredWriting (goodFlatReport f) (trafficBytes (trafficFrom f))

@@ -6,17 +6,11 @@ ghost use Rattle.fcs.specs.Fcs.{fcs};
 ghost use Rattle.framing.specs.Framing.{framing, framedOutput};
 ghost use Rattle.collecting.specs.Step.{held};
 ghost use Rattle.collecting.specs.Stream.{run};
-ghost use Rattle.heartbeat.specs.Heartbeat.{goodHeartbeat, heartbeatBytes, heartbeatRead};
-ghost use Rattle.initialization.specs.Initialization.{goodInitialization, initializationBytes, initializationRead};
-ghost use Rattle.altitudes.specs.Height.{goodTerrain, terrainBytes};
-ghost use Rattle.altitudes.specs.Geometric.{goodGeometric, geometricBytes};
-ghost use Rattle.passing.specs.Uplink.{uplinkBytes, writingUplink};
-ghost use Rattle.passing.specs.PassThrough.{goodBasicPassThrough, basicPassThroughBytes, goodLongPassThrough, longPassThroughBytes};
-ghost use Rattle.report.specs.Bytes.{ownshipBytes, trafficBytes};
+ghost use Rattle.heartbeat.specs.Heartbeat.{heartbeatRead};
+ghost use Rattle.initialization.specs.Initialization.{initializationRead};
 ghost use Rattle.report.specs.Reading.{ownshipRead, trafficRead};
-ghost use Rattle.c_structs.specs.Flat.{uplinkFrom, terrainFrom, geometricFrom, basicFrom, longFrom};
-ghost use Rattle.gdl90.specs.Messages.{kindAnswer, uplinkAnswer, heightAnswer, geometricAnswer, basicAnswer, longAnswer};
-ghost use Rattle.gdl90.specs.Messages.{writeAnswer, AnsweredBy, AnsweredWriting, ownshipFrom, trafficFrom, goodFlatReport};
+ghost use Rattle.gdl90.specs.Messages.{kindAnswer, uplinkAnswer, heightAnswer, geometricAnswer, basicAnswer, longAnswer, writeAnswer};
+ghost use Rattle.gdl90.specs.Messages.{WritesHeartbeat, WritesInitialization, WritesUplink, WritesHeight, WritesOwnship, WritesGeometric, WritesTraffic, WritesBasic, WritesLong};
 ghost use Rattle.messages.specs.Message.{kindIn, kindNumber, idOf};
 ghost use Rattle.uplink.specs.Walk.{payloadFrames};
 ghost use Rattle.uplink.specs.Answers.{frameList, nthFrame};
@@ -26,7 +20,7 @@ ghost use Rattle.units.specs.Degrees.{inDegrees};
 ghost use Rattle.units.specs.Feet.{pressureFeet, geometricFeet, terrainFeet};
 ghost use Rattle.gdl90.specs.Payload.{listAnswer, nthAnswer};
 ghost use Rattle.uplink.specs.declared.Found.the-variants.{Refused};
-ghost use Rattle.gdl90.specs.Degrees.{degreesAnswer};
+ghost use Rattle.gdl90.specs.Degrees.{degreesAnswer, ExactAnswer};
 use c_report::FlatReport;
 use c_report::FlatReportRead;
 use c_structs::FlatBasic;
@@ -157,6 +151,7 @@ fn feed_answer(control: Control, taken: usize, answer: Answer) -> FeedAnswer
     }
 }
 
+// A phase over 4 is none: its state is taken as the fresh one.
 fn control_of(control: FeedControl) -> Control
     ensures { λ r. ⌜ r ≡ controlOf control ⌝ }
 {
@@ -379,7 +374,7 @@ pub struct WriteAnswer {
 // A struct's bytes to the start of the output: 01's number and how many; an uplink's payload is given beside it.
 #[no_mangle]
 pub extern "C" fn gdl90_write_heartbeat(heartbeat: Heartbeat, out: &mut [u8]) -> WriteAnswer
-    ensures { λ r. ⌜ AnsweredWriting (goodHeartbeat heartbeat) (heartbeatBytes heartbeat) (now (out .entry)) r (now (out .exit)) ⌝ }
+    ensures { λ r. ⌜ WritesHeartbeat heartbeat (now (out .entry)) r (now (out .exit)) ⌝ }
 {
     let written = heartbeat::write_heartbeat(heartbeat, out);
     write_answer(written)
@@ -390,7 +385,7 @@ pub extern "C" fn gdl90_write_initialization(
     initialization: Initialization,
     out: &mut [u8],
 ) -> WriteAnswer
-    ensures { λ r. ⌜ AnsweredWriting (goodInitialization initialization) (initializationBytes initialization) (now (out .entry)) r (now (out .exit)) ⌝ }
+    ensures { λ r. ⌜ WritesInitialization initialization (now (out .entry)) r (now (out .exit)) ⌝ }
 {
     let written = initialization::write_initialization(initialization, out);
     write_answer(written)
@@ -402,7 +397,7 @@ pub extern "C" fn gdl90_write_uplink(
     payload: &[u8],
     out: &mut [u8],
 ) -> WriteAnswer
-    ensures { λ r. ⌜ AnsweredBy (writingUplink (uplinkFrom uplink) (now (payload .entry)) (length (now (out .entry)))) (uplinkBytes (uplinkFrom uplink) (now (payload .entry))) (now (out .entry)) r (now (out .exit)) ⌝ }
+    ensures { λ r. ⌜ WritesUplink uplink (now (payload .entry)) (now (out .entry)) r (now (out .exit)) ⌝ }
 {
     let value = c_structs::uplink_from(uplink);
     let written = passing::write_uplink(value, payload, out);
@@ -411,7 +406,7 @@ pub extern "C" fn gdl90_write_uplink(
 
 #[no_mangle]
 pub extern "C" fn gdl90_write_height(height: FlatHeight, out: &mut [u8]) -> WriteAnswer
-    ensures { λ r. ⌜ AnsweredWriting (goodTerrain (terrainFrom height)) (terrainBytes (terrainFrom height)) (now (out .entry)) r (now (out .exit)) ⌝ }
+    ensures { λ r. ⌜ WritesHeight height (now (out .entry)) r (now (out .exit)) ⌝ }
 {
     let value = c_structs::terrain_from(height);
     let written = altitudes::write_height(value, out);
@@ -420,7 +415,7 @@ pub extern "C" fn gdl90_write_height(height: FlatHeight, out: &mut [u8]) -> Writ
 
 #[no_mangle]
 pub extern "C" fn gdl90_write_ownship(report: FlatReport, out: &mut [u8]) -> WriteAnswer
-    ensures { λ r. ⌜ AnsweredWriting (goodFlatReport report) (ownshipBytes (ownshipFrom report)) (now (out .entry)) r (now (out .exit)) ⌝ }
+    ensures { λ r. ⌜ WritesOwnship report (now (out .entry)) r (now (out .exit)) ⌝ }
 {
     if report.track_kind <= LAST_TRACK_KIND {
         let report = c_report::report_from(report);
@@ -435,7 +430,7 @@ pub extern "C" fn gdl90_write_ownship(report: FlatReport, out: &mut [u8]) -> Wri
 
 #[no_mangle]
 pub extern "C" fn gdl90_write_geometric(geometric: FlatGeometric, out: &mut [u8]) -> WriteAnswer
-    ensures { λ r. ⌜ AnsweredWriting (goodGeometric (geometricFrom geometric)) (geometricBytes (geometricFrom geometric)) (now (out .entry)) r (now (out .exit)) ⌝ }
+    ensures { λ r. ⌜ WritesGeometric geometric (now (out .entry)) r (now (out .exit)) ⌝ }
 {
     let value = c_structs::geometric_from(geometric);
     let written = altitudes::write_geometric(value, out);
@@ -444,7 +439,7 @@ pub extern "C" fn gdl90_write_geometric(geometric: FlatGeometric, out: &mut [u8]
 
 #[no_mangle]
 pub extern "C" fn gdl90_write_traffic(report: FlatReport, out: &mut [u8]) -> WriteAnswer
-    ensures { λ r. ⌜ AnsweredWriting (goodFlatReport report) (trafficBytes (trafficFrom report)) (now (out .entry)) r (now (out .exit)) ⌝ }
+    ensures { λ r. ⌜ WritesTraffic report (now (out .entry)) r (now (out .exit)) ⌝ }
 {
     if report.track_kind <= LAST_TRACK_KIND {
         let report = c_report::report_from(report);
@@ -459,7 +454,7 @@ pub extern "C" fn gdl90_write_traffic(report: FlatReport, out: &mut [u8]) -> Wri
 
 #[no_mangle]
 pub extern "C" fn gdl90_write_basic(basic: FlatBasic, out: &mut [u8]) -> WriteAnswer
-    ensures { λ r. ⌜ AnsweredWriting (goodBasicPassThrough (basicFrom basic)) (basicPassThroughBytes (basicFrom basic)) (now (out .entry)) r (now (out .exit)) ⌝ }
+    ensures { λ r. ⌜ WritesBasic basic (now (out .entry)) r (now (out .exit)) ⌝ }
 {
     let value = c_structs::basic_from(basic);
     let written = passing::write_basic_pass_through(value, out);
@@ -468,7 +463,7 @@ pub extern "C" fn gdl90_write_basic(basic: FlatBasic, out: &mut [u8]) -> WriteAn
 
 #[no_mangle]
 pub extern "C" fn gdl90_write_long(long: FlatLong, out: &mut [u8]) -> WriteAnswer
-    ensures { λ r. ⌜ AnsweredWriting (goodLongPassThrough (longFrom long)) (longPassThroughBytes (longFrom long)) (now (out .entry)) r (now (out .exit)) ⌝ }
+    ensures { λ r. ⌜ WritesLong long (now (out .entry)) r (now (out .exit)) ⌝ }
 {
     let value = c_structs::long_from(long);
     let written = passing::write_long_pass_through(value, out);
@@ -596,6 +591,7 @@ pub struct DegreesAnswer {
 #[no_mangle]
 pub extern "C" fn gdl90_degrees(latitude: i32, longitude: i32) -> DegreesAnswer
     ensures { λ r. ⌜ r ≡ degreesAnswer (inDegrees latitude longitude) ⌝ }
+    ensures exact { λ r. ⌜ ExactAnswer latitude longitude r ⌝ }
 {
     match units::in_degrees(latitude, longitude) {
         InDegrees::At(d) => DegreesAnswer {

@@ -25,7 +25,7 @@ use Rattle.uplink.specs.declared.FrameList.{FrameList}
 use Rattle.uplink.specs.Frames.{lengthIn}
 use Rattle.uplink.specs.Walk.{payloadFrames}
 use Rattle.uplink.specs.Answers.{frameList}
-use Rattle.uplink.specs.Claims.{payloadWith}
+use Rattle.uplink.specs.Contents.{payloadWith}
 
 pub data Row : Type 0 where
   -- a message and its check sequence

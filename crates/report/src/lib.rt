@@ -446,6 +446,7 @@ fn knots_or(speed: Speed, over: u16, none: u16) -> u16
     }
 }
 
+// The climb's marks are 0x1FE, 0xE02 and 0x800.
 fn climb_of(code: u32) -> Climb
     ensures { λ r. ⌜ r ≡ climbOf code ⌝ }
 {

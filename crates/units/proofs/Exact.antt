@@ -6,7 +6,7 @@ use Prim.Native.Nat.{ℕ, zero, suc, _+_, _-_, _*_, _/_, _%_, _^_, _≤_, _<_}
 use native.Mathlib.Nat.{mul-assoc, mul-comm, mul-left-comm, mul-right-comm, mul-one, eq-of-mul-eq-mul-right, lt-of-le-of-lt, lt-of-lt-of-le, lt-trans, le-of-lt, mul-pos, le-of-suc-le-suc}
 use native.Mathlib.Omega.{arith}
 use lib.Arith.{lt-of-le-ne}
-use borrow.Author.Tests.{ne-eqb, eqb-false}
+use borrow.Author.Tests.{ne-eqb, eqb-false, leb-false}
 use lib.Dec.{leb, eqb, lit<, lit≤}
 use lib.Pow.{pow-add, shl-lt, pow-mono}
 use lib.IntN.{ℤ, pos, negsuc, natAbs}
@@ -16,7 +16,9 @@ use lib.Ieee.Fits.{down-pos, div-fits}
 use lib.Ieee.Exact.{HasValue, round-exact, odd-sign}
 use lib.Ieee.Back.{round-whole}
 use lib.Ieee.Bits.{ofBits-toBits}
-use Rattle.units.specs.Degrees.{degrees, Exactly}
+use Rattle.units.specs.declared.InDegrees.the-variants.{At, Refused}
+use Rattle.units.specs.Degrees.{degrees, inDegrees, Exactly, ExactlyAt}
+use Rattle.units.specs.Claims.{ExactDegrees}
 
 -- from one fraction to another of the same size
 rescale : (x : Float) (s : Bool) (w l num den : ℕ) → 0 < l → num * l ≡ w * den → HasValue x s w l → HasValue x s num den
@@ -164,3 +166,13 @@ exactly n h =
     let v : HasValue (ofBits binary64 b) (not (nonNeg n)) (180 * natAbs n) 8388608 = subst (λ (x : Float). HasValue x (not (nonNeg n)) (180 * natAbs n) 8388608) (sym back) (value-of n h) in
     let f = fields (leb 9223372036854775808 b) (not (nonNeg n)) (b % 9223372036854775808 / 4503599627370496) (b % 4503599627370496) (180 * natAbs n) (omega arith) v in
     record { sign = f .0; finite = f .1; value = f .2 }
+
+pub exact-degrees : ExactDegrees
+unfolding inDegrees ExactlyAt
+exact-degrees a o = go (leb 8388608 (mag a)) refl (leb 8388608 (mag o)) refl
+  where
+    go : (s : Bool) → leb 8388608 (mag a) ≡ s → (t : Bool) → leb 8388608 (mag o) ≡ t
+        → ExactlyAt a o (cond s (Refused 8) (cond t (Refused 8) (At (record { latitude = degrees a; longitude = degrees o }))))
+    go true e t f = refl
+    go false e true f = refl
+    go false e false f = (exactly a (leb-false 8388608 (mag a) e), exactly o (leb-false 8388608 (mag o) f))

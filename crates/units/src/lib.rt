@@ -10,7 +10,7 @@ pub struct PressureSteps {
     pub steps: u16,
 }
 
-// Geometric altitude in steps of 5 feet.
+// Geometric altitude, 5 feet a step.
 #[repr(C)]
 pub struct GeometricSteps {
     pub steps: i16,

@@ -12,7 +12,7 @@ use Rattle.uplink.specs.Frames.{lengthIn, headed, frameBytes, withValidB
 use Rattle.uplink.specs.Walk.{Frames, listed, refused, framesBefore, walk, validBit, payloadFrames}
 use Rattle.uplink.specs.Answers.{dataIn}
 use Rattle.uplink.specs.Adding.{withFrame}
-use Rattle.uplink.specs.Claims.{newFrame}
+use Rattle.uplink.specs.Contents.{newFrame}
 use Rattle.uplink.proofs.Walking.{before-none, before-both, before-end, short, ended, more, every-walk, every-listing}
 
 -- the bytes up to a list's end, followed by others, list its frames and then those of the others

@@ -13,7 +13,8 @@ use Rattle.uplink.specs.declared.Added.the-variants.{Done, Refused}
 use Rattle.uplink.specs.Walk.{listed, framesBefore, walk, payloadFrames}
 use Rattle.uplink.specs.Answers.{frameList}
 use Rattle.uplink.specs.Adding.{isGood, adding, withFrame}
-use Rattle.uplink.specs.Claims.{Fixed, Content, contentOf, contents, newFrame, AddedListed, AllAdded, nothing, also, AllAddedListed}
+use Rattle.uplink.specs.Contents.{Content, contentOf, contents, newFrame}
+use Rattle.uplink.specs.Claims.{Fixed, AddedListed, AllAdded, nothing, also, AllAddedListed}
 use Rattle.uplink.specs.Samples.{bytesOf, rows, graphical1, graphical2, textual, Samples}
 use Rattle.uplink.proofs.Rows.{InRow, row-le, in-row}
 use Rattle.uplink.proofs.Putting.{good}

@@ -17,7 +17,8 @@ use Rattle.uplink.specs.Frames.{lengthIn, headed}
 use Rattle.uplink.specs.Walk.{Frames, listed, refused, framesBefore, walk, payloadFrames}
 use Rattle.uplink.specs.Answers.{frameList, nthFrame, dataIn, none}
 use Rattle.uplink.specs.Adding.{endOf}
-use Rattle.uplink.specs.Claims.{framesIn, AtMost141, Inside, Apart}
+use Rattle.uplink.specs.Contents.{framesIn}
+use Rattle.uplink.specs.Claims.{AtMost141, Inside, Apart}
 use Rattle.uplink.proofs.Walking.{every-walk, every-listing}
 
 -- from byte `at` up to byte `end`

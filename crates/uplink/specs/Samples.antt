@@ -6,7 +6,7 @@ use mathlib.Core.List.{List, [], _∷_, map}
 use Rattle.uplink.specs.declared.FrameList.the-variants as list
 use Rattle.uplink.specs.Walk.{payloadFrames}
 use Rattle.uplink.specs.Answers.{frameList}
-use Rattle.uplink.specs.Claims.{framesIn, payloadWith}
+use Rattle.uplink.specs.Contents.{framesIn, payloadWith}
 
 -- n bytes of a number, the highest first, before others
 unfoldable pub bytesOf : ℕ → ℕ → List ℕ → List ℕ

@@ -114,6 +114,7 @@ fn scan(payload: &[u8], n: usize) -> Walked
     if payload.len() != 432 {
         return Walked::Refused(7);
     }
+    // bit 5 of the seventh header byte
     if payload[6] / 32 % 2 != 1 {
         return Walked::Listed(0, 0, frame);
     }
@@ -138,7 +139,8 @@ fn scan(payload: &[u8], n: usize) -> Walked
     Walked::Listed(count, at, frame)
 }
 
-// The frame at byte `at` whose header is the bytes a and b.
+// The frame at byte `at` whose header is the bytes a and b: the length, in nine bits: all of the first byte, then bit 7 of the second;
+// three reserved bits; type in four.
 fn header(at: usize, a: u8, b: u8) -> Frame
     ensures { λ r. ⌜ r ≡ headed at a b ⌝ }
 {

@@ -1,7 +1,7 @@
 // Lists the information frames of uplink payloads, and adds frames to them. A record of the input is a
-// letter, a size, two bytes, high byte first, and that many bytes: P, a payload; M, a message, of which
-// the payload is taken; A, a type and data, which are added to the payload that was given last; L, no
-// bytes: that payload as it is now.
+// letter, a size, two bytes, high byte first, and that many bytes: P, a payload; M, a message; A, a type
+// and data, which are added to the payload that was given last, also in a message; L, no bytes: that
+// payload as it is now.
 // Of P, M and L it prints 01's number and, where it is 0, the list's count and end, and of each frame type,
 // reserved bits, length and the first two bytes of the data, in which the product id is (001 §5); then what
 // the number behind the last is answered. Of A it prints 01's number and the check sequence of the payload
@@ -25,14 +25,14 @@ fn print_number(n: usize) {
     io::print_decimal(STDOUT_FILENO, n as u64);
 }
 
-fn print_frame(payload: &[u8], n: usize) {
-    match uplink::nth(payload, n) {
+fn print_frame(found: Found, data: &[u8]) {
+    match found {
         Found::Frame(f) => {
             print_number(f.kind as usize);
             print_number(f.reserved as usize);
             print_number(f.length);
             print(b" ");
-            printing::hex_bytes(STDOUT_FILENO, uplink::data(payload, n), 2);
+            printing::hex_bytes(STDOUT_FILENO, data, 2);
         }
         Found::Refused(k) => print_number(k as usize),
     }
@@ -41,20 +41,52 @@ fn print_frame(payload: &[u8], n: usize) {
 fn print_frames(payload: &[u8], count: usize) {
     let mut n = 0;
     while n < count {
-        print_frame(payload, n);
+        print_frame(uplink::nth(payload, n), uplink::data(payload, n));
         n += 1;
     }
-    print_frame(payload, count);
+    print_frame(uplink::nth(payload, count), uplink::data(payload, count));
 }
 
 fn print_list(payload: &[u8]) {
     print(b"list");
     match uplink::list(payload) {
         FrameList::Frames { count, end } => {
-            print_number(0);
-            print_number(count);
-            print_number(end);
+            print_counts(count, end);
             print_frames(payload, count);
+        }
+        FrameList::Refused(k) => print_number(k as usize),
+    }
+    print(b"\n");
+}
+
+fn print_counts(count: usize, end: usize) {
+    print_number(0);
+    print_number(count);
+    print_number(end);
+}
+
+// The same of a message, by its own functions.
+fn print_message_frames(message: &[u8], count: usize) {
+    let mut n = 0;
+    while n < count {
+        print_frame(
+            uplink_message::nth(message, n),
+            uplink_message::data(message, n),
+        );
+        n += 1;
+    }
+    print_frame(
+        uplink_message::nth(message, count),
+        uplink_message::data(message, count),
+    );
+}
+
+fn print_message_list(message: &[u8]) {
+    print(b"list");
+    match uplink_message::list(message) {
+        FrameList::Frames { count, end } => {
+            print_counts(count, end);
+            print_message_frames(message, count);
         }
         FrameList::Refused(k) => print_number(k as usize),
     }
@@ -77,8 +109,7 @@ fn byte_or_zero(bytes: &[u8], i: usize) -> u8 {
 }
 
 // Frames are added to the first 432 of these bytes, with zeros behind them where they are fewer.
-fn list_and_keep(bytes: &[u8], payload: &mut [u8; 432]) {
-    print_list(bytes);
+fn keep(bytes: &[u8], payload: &mut [u8; 432]) {
     let mut i = 0;
     while i < 432 {
         payload[i] = byte_or_zero(bytes, i);
@@ -92,9 +123,11 @@ fn answer(letter: u8, part: &[u8], payload: &mut [u8; 432]) {
     } else if letter == b'L' {
         print_list(payload);
     } else if letter == b'M' {
-        list_and_keep(passing::payload(part), payload);
+        print_message_list(part);
+        keep(passing::payload(part), payload);
     } else {
-        list_and_keep(part, payload);
+        print_list(part);
+        keep(part, payload);
     }
 }
 

@@ -15,6 +15,12 @@ abbrev μ-loop : tie.MeasureT-loop
 loop-holds : tie.Need-loop-holds Inv-loop μ-loop
 loop-holds c = omega arith
 
+nth-requires : tie.Need-nth-requires Inv-loop μ-loop
+nth-requires c κs = search needs
+
+data-requires : tie.Need-data-requires Inv-loop μ-loop
+data-requires c κs = search needs
+
 print-frame-requires : tie.Need-print-frame-requires Inv-loop μ-loop
 print-frame-requires c κs = search needs
 
@@ -26,6 +32,12 @@ loop-less c = omega arith
 
 loop-again : tie.Need-loop-again Inv-loop μ-loop
 loop-again c = omega arith
+
+nth-requires-2 : tie.Need-nth-requires-2 Inv-loop μ-loop
+nth-requires-2 c κs = search needs
+
+data-requires-2 : tie.Need-data-requires-2 Inv-loop μ-loop
+data-requires-2 c κs = search needs
 
 print-frame-requires-2 : tie.Need-print-frame-requires-2 Inv-loop μ-loop
 print-frame-requires-2 c κs = search needs
@@ -40,9 +52,13 @@ print-frames-spec =
     Inv-loop
     μ-loop
     loop-holds
+    nth-requires
+    data-requires
     print-frame-requires
     add-n
     loop-less
     loop-again
+    nth-requires-2
+    data-requires-2
     print-frame-requires-2
     returns)

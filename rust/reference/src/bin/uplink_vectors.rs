@@ -1,9 +1,9 @@
 //! Payloads whose frames are to be listed, frames to be added, and the answers.
 //!
 //! `uplink_vectors input` writes binary records: a letter, a size (16 bits, high
-//! byte first), and that many bytes. P is a payload; M a message, whose payload
-//! is taken; A a type and data, added to the payload given last; L, without
-//! bytes, is that payload as it is now.
+//! byte first), and that many bytes. P is a payload; M a message; A a type and
+//! data, added to the payload given last, also in a message; L, without bytes,
+//! is that payload as it is now.
 //! `uplink_vectors output` writes one line for each record. For P, M and L: number
 //! of 01 and, if it is 0, count and end of the list, then type, reserved bits,
 //! length and the first two bytes in hex of each frame, then the answer to the
@@ -13,7 +13,7 @@ use std::io::{self, Write};
 use std::process::ExitCode;
 
 use reference::fcs::check_sequence;
-use reference::messages::{read, write, Message, Uplink, PAYLOAD_LENGTH, UPLINK_ID};
+use reference::messages::{read, write, Message, Uplink, NOT_LISTED, PAYLOAD_LENGTH, UPLINK_ID};
 use reference::payloads::{damaged, samples_of_001, valid, whole};
 use reference::samples;
 use reference::uplink::{
@@ -65,11 +65,13 @@ fn write_output(out: &mut dyn Write) -> io::Result<()> {
         match record {
             Payload(payload) => last = list_and_keep(out, payload)?,
             Record::Message(message) => {
-                let payload = match read(&message) {
-                    Ok(Message::Uplink(uplink)) => uplink.payload,
-                    _ => vec![],
+                last = match read_uplink(&message) {
+                    Ok(payload) => list_and_keep(out, payload)?,
+                    Err(number) => {
+                        writeln!(out, "list {number}")?;
+                        vec![0; PAYLOAD_LENGTH]
+                    }
                 };
-                last = list_and_keep(out, payload)?;
             }
             Add(frame_type, data) => {
                 let number = add(&mut last, frame_type, &data).err().unwrap_or(0);
@@ -79,6 +81,18 @@ fn write_output(out: &mut dyn Write) -> io::Result<()> {
         }
     }
     Ok(())
+}
+
+/// The payload of an uplink message: refused as reading it is, and with 6 if it
+/// is of another kind.
+fn read_uplink(message: &[u8]) -> Result<Vec<u8>, u8> {
+    if message.first() != Some(&UPLINK_ID) {
+        return Err(NOT_LISTED);
+    }
+    match read(message)? {
+        Message::Uplink(uplink) => Ok(uplink.payload),
+        _ => unreachable!("the id is an uplink's"),
+    }
 }
 
 /// What frames are added to: the first 432 bytes, zeros behind fewer.

@@ -1,19 +1,16 @@
--- `uplink_vectors::list_and_keep` meets its contract: each turn stores a byte.
+-- `uplink_vectors::keep` meets its contract: each turn stores a byte.
 -- Assumes nothing.
 use native.Mathlib.Omega.{arith}
 use Prim.Native.Nat.{_≤_, _-_}
 use borrow.Author.Needs.{needs}
-use Rattle.uplink_vectors.proofs.list_and_keep.Statement.{statement}
-use Rattle.uplink_vectors.proofs.list_and_keep.Tie as tie
+use Rattle.uplink_vectors.proofs.keep.Statement.{statement}
+use Rattle.uplink_vectors.proofs.keep.Tie as tie
 
 abbrev Inv-loop : tie.InvT-loop
 Inv-loop bytes payload₀ i₀ payload i = i ≤ 432
 
 abbrev μ-loop : tie.MeasureT-loop
 μ-loop bytes payload₀ i₀ payload i = 432 - i
-
-print-list-requires : tie.Need-print-list-requires Inv-loop μ-loop
-print-list-requires c κs = search needs
 
 loop-holds : tie.Need-loop-holds Inv-loop μ-loop
 loop-holds c = omega arith
@@ -36,13 +33,12 @@ loop-again c = omega arith
 returns : tie.Need-returns Inv-loop μ-loop
 returns c = search needs
 
-pub list-and-keep-spec : {M : Type 1} → statement M
-list-and-keep-spec =
+pub keep-spec : {M : Type 1} → statement M
+keep-spec =
     tie.close
     (tie.spec
     Inv-loop
     μ-loop
-    print-list-requires
     loop-holds
     byte-or-zero-requires
     element-write-payload

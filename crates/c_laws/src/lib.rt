@@ -1,0 +1,2 @@
+// Demand 2 of 01 over the functions for C, kind by kind.
+// There is no code here, only the claims (specs/) and their proofs (proofs/).
