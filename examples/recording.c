@@ -139,7 +139,7 @@ static uint8_t print_long(const uint8_t *message, size_t length)
     return read.number;
 }
 
-/* The first byte says the kind; 6 is the number of an id that no kind has. */
+/* gdl90_kind says which function reads the message, or 6. */
 static uint8_t print_kind(const uint8_t *message, size_t length)
 {
     struct gdl90_kind_answer kind = gdl90_kind(message, length);

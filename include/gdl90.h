@@ -49,8 +49,8 @@ struct gdl90_frame_answer gdl90_frame(const uint8_t *message, size_t message_len
 
 /* ---- collecting frames from a stream. Control and room are the state: keep both, unchanged, from one call to the next. */
 
-/* All zero: the fresh state; the room is then zero too. After a call that took a byte both fields are in their ranges. A control
-   with another phase or count is taken as the fresh state. Fed no byte at all, one with a phase over 4 comes back with count 439
+/* All zero: the fresh state; the room is then zero too. A control with another phase or count than those below is taken as the fresh
+   state. Fed no byte at all, one with a phase over 4 comes back with count 439
    and phase 0, and any other with a count over 438 as it came: both are taken as the fresh state again. */
 struct gdl90_feed_control {
     size_t count;  /* bytes in the room, 0 to 438 */

@@ -1,6 +1,6 @@
 -- Each field with a mark: an unknown mark is no good value, and a known one comes back, with the field where it is a number.
 -- Assumes nothing.
-use mathlib.Core.Path.{_≡_, refl, sym, _∙_}
+use mathlib.Core.Path.{_≡_, refl}
 use mathlib.Core.Bool.{Bool, true, false}
 use Prim.Native.Nat.{ℕ, zero, suc, _≤_, _<_}
 use native.Mathlib.Omega.{arith}
@@ -17,8 +17,8 @@ use Rattle.report.specs.Marks.{stepsOr, knotsOr, climbOr}
 use Rattle.report.specs.Reading.{between, lowestClimb, highestClimb, goodPosition}
 use Rattle.c_structs.specs.Flat.{receptionMark, receptionSteps, receptionFrom, heightMark, heightFeet, heightFrom, meritMark, meritMetres, meritFrom}
 use Rattle.c_report.specs.Flat.{positionMark, latitudeOf, longitudeOf, positionFrom, altitudeMark, altitudeSteps, altitudeFrom}
-use Rattle.c_report.specs.Flat.{trackNumber, trackFrom, speedMark, speedKnots, speedFrom, climbMark, climbSteps, climbFrom}
-use Rattle.c_laws.specs.Plain.{beside}
+use Rattle.c_report.specs.Flat.{speedMark, speedKnots, speedFrom, climbMark, climbSteps, climbFrom}
+use Rattle.c_laws.specs.Zeroed.{beside}
 
 -- where what lies above `last` is bad, what is good lies within it
 pub within : (last mark : ℕ) {good : Bool} → (last < mark → good ≡ false) → good ≡ true → mark ≤ last

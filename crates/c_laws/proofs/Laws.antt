@@ -30,7 +30,7 @@ use Rattle.passing.specs.PassThrough.{basicPassThroughIn, goodBasicPassThrough,
 use Rattle.passing.proofs.Uplinks as uplinks
 use Rattle.passing.proofs.PassThroughs as pass-throughs
 use Rattle.report.specs.Bytes.{reportIn, reportBytes}
-use Rattle.report.specs.Reading.{goodPosition, goodReport, reportAccepted, reportRefused}
+use Rattle.report.specs.Reading.{goodReport, reportAccepted, reportRefused}
 use Rattle.report.proofs.Marked.{kind-code, kind-fits}
 use Rattle.report.proofs.Laws as reports
 use Rattle.c_structs.specs.declared.FlatUplink.{FlatUplink}
@@ -43,11 +43,12 @@ use Rattle.c_structs.proofs.Laws.{there-and-back}
 use Rattle.c_report.specs.declared.FlatReport.{FlatReport}
 use Rattle.c_report.specs.Flat.{trackNumber, flatReport, reportFrom}
 use Rattle.c_report.proofs.Laws.{report-there-and-back}
-use Rattle.gdl90.specs.Messages.{uplinkAnswer, AnsweredWriting, goodFlatReport}
-use Rattle.c_laws.specs.Plain.{beside, plainUplink, plainHeight, plainGeometric, plainBasic, plainLong, plainReport}
+use Rattle.messages.specs.Message.{kindOf, kindNumber}
+use Rattle.gdl90.specs.Messages.{kindAnswer, uplinkAnswer, AnsweredWriting, goodFlatReport}
+use Rattle.c_laws.specs.Zeroed.{beside, zeroedUplink, zeroedHeight, zeroedGeometric, zeroedBasic, zeroedLong, zeroedReport}
 use Rattle.c_laws.specs.Claims.{Any, RoundTrip, RoundTrips, UnknownIn, position, altitude, track, speed, climb, UnknownMarks}
 use Rattle.c_laws.proofs.Fields as fields
-use Rattle.c_laws.proofs.Trips.{trip, back, again, kind-trip, bad}
+use Rattle.c_laws.proofs.Trips.{named-by, trip, back, again, kind-trip, bad}
 
 -- the feet are of their type, whatever the mark
 typed-height : (mark : ℕ) (h : TerrainFeet) → mag (h .feet) < 0x8000 → TypedHeight (heightFrom mark h)
@@ -59,28 +60,28 @@ reception : (mark n : ℕ) → goodReception (receptionFrom mark n) ≡ true →
 reception mark n g = fields.reception-back mark n (fields.within 1 mark (fields.reception-unknown mark n) g)
 
 -- each struct that writing accepts comes back with 0 beside its marks
-uplink-fine : (f : FlatUplink) → goodUplink (uplinkFrom f) ≡ true → flatUplink (uplinkFrom f) ≡ plainUplink f
+uplink-fine : (f : FlatUplink) → goodUplink (uplinkFrom f) ≡ true → flatUplink (uplinkFrom f) ≡ zeroedUplink f
 uplink-fine f g = let b = reception (f .«reception_mark») (f .reception) g in simp (b .0, b .1)
 
-basic-fine : (f : FlatBasic) → goodBasicPassThrough (basicFrom f) ≡ true → flatBasic (basicFrom f) ≡ plainBasic f
+basic-fine : (f : FlatBasic) → goodBasicPassThrough (basicFrom f) ≡ true → flatBasic (basicFrom f) ≡ zeroedBasic f
 basic-fine f g = let b = reception (f .«reception_mark») (f .reception) g in simp (b .0, b .1)
 
-long-fine : (f : FlatLong) → goodLongPassThrough (longFrom f) ≡ true → flatLong (longFrom f) ≡ plainLong f
+long-fine : (f : FlatLong) → goodLongPassThrough (longFrom f) ≡ true → flatLong (longFrom f) ≡ zeroedLong f
 long-fine f g = let b = reception (f .«reception_mark») (f .reception) g in simp (b .0, b .1)
 
-height-fine : (f : FlatHeight) → goodTerrain (terrainFrom f) ≡ true → flatHeight (terrainFrom f) ≡ plainHeight f
+height-fine : (f : FlatHeight) → goodTerrain (terrainFrom f) ≡ true → flatHeight (terrainFrom f) ≡ zeroedHeight f
 height-fine f g =
     let mark = f .«height_mark» in
     let b = fields.height-back mark (f .height) (fields.within 1 mark (fields.height-unknown mark (f .height)) g) in
     simp (b .0, b .1)
 
-geometric-fine : (f : FlatGeometric) → goodGeometric (geometricFrom f) ≡ true → flatGeometric (geometricFrom f) ≡ plainGeometric f
+geometric-fine : (f : FlatGeometric) → goodGeometric (geometricFrom f) ≡ true → flatGeometric (geometricFrom f) ≡ zeroedGeometric f
 geometric-fine f g =
     let mark = f .«merit_mark» in
     let b = fields.merit-back mark (f .merit) (fields.within 2 mark (fields.merit-unknown mark (f .merit)) g) in
     simp (b .0, b .1)
 
-report-fine : (f : FlatReport) → goodFlatReport f ≡ true → (goodReport (reportFrom f) ≡ true) × (flatReport (reportFrom f) ≡ plainReport f)
+report-fine : (f : FlatReport) → goodFlatReport f ≡ true → (goodReport (reportFrom f) ≡ true) × (flatReport (reportFrom f) ≡ zeroedReport f)
 unfolding goodReport
 report-fine f g =
     let t = both (leb (f .«track_kind») 3) (goodReport (reportFrom f)) g in
@@ -96,15 +97,15 @@ report-fine f g =
     (t .1, simp (position .0, position .1, position .2, altitude .0, altitude .1, speed .0, speed .1, climb .0, climb .1, track))
 
 -- an ownship's and a traffic report's
-report-trip : (id : ℕ)
-    → RoundTrip FlatReport Any (λ f. AnsweredWriting (goodFlatReport f) (reportBytes id (reportFrom f)))
-    (λ m. reading id 28 reportIn goodReport reportAccepted reportRefused m .number) (λ m. reading id 28 reportIn goodReport reportAccepted reportRefused m .report) plainReport
+report-trip : (id : ℕ) → kindNumber (kindOf id) ≡ 0
+    → RoundTrip id FlatReport Any (λ f. AnsweredWriting (goodFlatReport f) (reportBytes id (reportFrom f)))
+    (λ m. reading id 28 reportIn goodReport reportAccepted reportRefused m .number) (λ m. reading id 28 reportIn goodReport reportAccepted reportRefused m .report) zeroedReport
 unfolding misfit reportBytes
-report-trip id =
+report-trip id known =
     kind-trip id 28 reportIn goodReport reportAccepted reportRefused (λ r. r .number) (λ k. refl) (λ r. refl) (λ r. r .report) flatReport (λ r. refl)
     reportFrom (reportBytes id) goodFlatReport report-there-and-back report-fine
     (λ r g. simp (le-leb (trackNumber (r .«track_kind»)) 3 (omega (arith, kind-fits (r .«track_kind»))), report-there-and-back r, g))
-    (λ r. simp (eq-eqb id id refl)) (λ f t g. reports.written-read id (reportFrom f) g) (reports.read-written id)
+    (known, λ e. omega arith) (λ r. simp (eq-eqb id id refl)) (λ f t g. reports.written-read id (reportFrom f) g) (reports.read-written id)
 
 -- an uplink's, with its payload
 module _ (x : FlatUplink × List ℕ) where
@@ -127,7 +128,7 @@ module _ (x : FlatUplink × List ℕ) where
       go true false e z = omega arith
       go false t e z = omega arith
 
-  uplink-back : good ≡ true → (uplinkAnswer bytes .number ≡ 0) × (_≡_ {A = FlatUplink × List ℕ} (uplinkAnswer bytes .uplink, drop 4 bytes) (plainUplink (x .0), x .1))
+  uplink-back : good ≡ true → (uplinkAnswer bytes .number ≡ 0) × (_≡_ {A = FlatUplink × List ℕ} (uplinkAnswer bytes .uplink, drop 4 bytes) (zeroedUplink (x .0), x .1))
   unfolding misfit
   uplink-back g =
       let b = both (eqb (length (x .1)) 432) _ g in
@@ -149,33 +150,38 @@ uplink-again m b z =
     uplinkFrom (λ u. uplinkBytes u (drop 4 m)) m (there-and-back .0) (λ l i. uplinks.read-written m l b i) z in
     (simp (eq-eqb (length (drop 4 m)) 432 (omega (arith, length-drop 4 m, r .0 .1)), s .0), s .1)
 
+uplink-named : (m : List ℕ) → uplinkAnswer m .number ≡ 0 → kindAnswer m ≡ record { number = 0; id = 7 }
+uplink-named m z =
+    let r = accepted-as 7 436 uplinkIn goodUplink (λ y. record { number = 0; uplink = y }) uplinkRefused m (λ y. y .number) (λ k. refl) z in
+    named-by 7 refl m (λ e. omega (arith, r .0 .1)) (r .0 .0)
+
 pub round-trips : RoundTrips
 unfolding misfit terrainBytes geometricBytes
 round-trips = record {
   heartbeat =
       kind-trip 0 7 heartbeatIn goodHeartbeat (λ h. record { number = 0; heartbeat = h }) heartbeatRefused (λ r. r .number) (λ k. refl) (λ h. refl) (λ r. r .heartbeat) (λ h. h) (λ h. refl)
-      (λ h. h) heartbeatBytes goodHeartbeat (λ h. refl) (λ h g. (g, refl)) (λ h g. g) (λ h. refl) (λ h t g. heartbeats.written-read h g) heartbeats.read-written;
+      (λ h. h) heartbeatBytes goodHeartbeat (λ h. refl) (λ h g. (g, refl)) (λ h g. g) (refl, λ e. omega arith) (λ h. refl) (λ h t g. heartbeats.written-read h g) heartbeats.read-written;
   initialization =
       kind-trip 2 3 initializationIn goodInitialization (λ i. record { number = 0; initialization = i }) initializationRefused (λ r. r .number) (λ k. refl) (λ i. refl) (λ r. r .initialization) (λ i. i) (λ i. refl)
-      (λ i. i) initializationBytes goodInitialization (λ i. refl) (λ i g. (g, refl)) (λ i g. g) (λ i. refl) (λ i t g. initializations.written-read i g) initializations.read-written;
-  uplink = trip (λ x. writingUplink (uplinkFrom (x .0)) (x .1)) good bytes accepts refuses (λ x t. uplink-back x) uplink-again;
+      (λ i. i) initializationBytes goodInitialization (λ i. refl) (λ i g. (g, refl)) (λ i g. g) (refl, λ e. omega arith) (λ i. refl) (λ i t g. initializations.written-read i g) initializations.read-written;
+  uplink = trip (λ x. writingUplink (uplinkFrom (x .0)) (x .1)) good bytes accepts refuses (λ x t. uplink-back x) uplink-again uplink-named;
   height =
       kind-trip 9 3 terrainIn goodTerrain (λ h. record { number = 0; height = h }) heightRefused (λ r. r .number) (λ k. refl) (λ h. refl) (λ r. flatHeight (r .height)) flatHeight (λ h. refl)
-      terrainFrom terrainBytes (λ f. goodTerrain (terrainFrom f)) (there-and-back .1) (λ f g. (g, height-fine f g)) (λ h g. ap goodTerrain (there-and-back .1 h) ∙ g) (λ h. refl)
+      terrainFrom terrainBytes (λ f. goodTerrain (terrainFrom f)) (there-and-back .1) (λ f g. (g, height-fine f g)) (λ h g. ap goodTerrain (there-and-back .1 h) ∙ g) (refl, λ e. omega arith) (λ h. refl)
       (λ f t g. altitudes.terrain-written-read (terrainFrom f) (typed-height (f .«height_mark») (f .height) t) g) altitudes.terrain-read-written;
-  ownship = report-trip 10;
+  ownship = report-trip 10 refl;
   geometric =
       kind-trip 11 5 geometricIn goodGeometric (λ g. record { number = 0; geometric = g }) geometricRefused (λ r. r .number) (λ k. refl) (λ g. refl) (λ r. flatGeometric (r .geometric)) flatGeometric (λ g. refl)
-      geometricFrom geometricBytes (λ f. goodGeometric (geometricFrom f)) (there-and-back .2) (λ f g. (g, geometric-fine f g)) (λ y g. ap goodGeometric (there-and-back .2 y) ∙ g) (λ y. refl)
+      geometricFrom geometricBytes (λ f. goodGeometric (geometricFrom f)) (there-and-back .2) (λ f g. (g, geometric-fine f g)) (λ y g. ap goodGeometric (there-and-back .2 y) ∙ g) (refl, λ e. omega arith) (λ y. refl)
       (λ f t g. altitudes.geometric-written-read (geometricFrom f) t g) altitudes.geometric-read-written;
-  traffic = report-trip 20;
+  traffic = report-trip 20 refl;
   basic =
       kind-trip 30 22 basicPassThroughIn goodBasicPassThrough (λ p. record { number = 0; basic = p }) basicRefused (λ r. r .number) (λ k. refl) (λ p. refl) (λ r. flatBasic (r .basic)) flatBasic (λ p. refl)
-      basicFrom basicPassThroughBytes (λ f. goodBasicPassThrough (basicFrom f)) (there-and-back .3) (λ f g. (g, basic-fine f g)) (λ p g. ap goodBasicPassThrough (there-and-back .3 p) ∙ g) (λ p. refl)
+      basicFrom basicPassThroughBytes (λ f. goodBasicPassThrough (basicFrom f)) (there-and-back .3) (λ f g. (g, basic-fine f g)) (λ p g. ap goodBasicPassThrough (there-and-back .3 p) ∙ g) (refl, λ e. omega arith) (λ p. refl)
       (λ f t g. pass-throughs.basic-written-read (basicFrom f) g) pass-throughs.basic-read-written;
   long =
       kind-trip 31 38 longPassThroughIn goodLongPassThrough (λ p. record { number = 0; long = p }) longRefused (λ r. r .number) (λ k. refl) (λ p. refl) (λ r. flatLong (r .long)) flatLong (λ p. refl)
-      longFrom longPassThroughBytes (λ f. goodLongPassThrough (longFrom f)) (there-and-back .4) (λ f g. (g, long-fine f g)) (λ p g. ap goodLongPassThrough (there-and-back .4 p) ∙ g) (λ p. refl)
+      longFrom longPassThroughBytes (λ f. goodLongPassThrough (longFrom f)) (there-and-back .4) (λ f g. (g, long-fine f g)) (λ p g. ap goodLongPassThrough (there-and-back .4 p) ∙ g) (refl, λ e. omega arith) (λ p. refl)
       (λ f t g. pass-throughs.long-written-read (longFrom f) g) pass-throughs.long-read-written;
 }
 

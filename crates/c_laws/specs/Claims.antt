@@ -19,42 +19,44 @@ use Rattle.c_structs.specs.declared.FlatBasic.{FlatBasic}
 use Rattle.c_structs.specs.declared.FlatLong.{FlatLong}
 use Rattle.c_report.specs.declared.FlatReport.{FlatReport}
 use Rattle.gdl90.specs.declared.WriteAnswer.{WriteAnswer}
-use Rattle.gdl90.specs.Messages.{uplinkAnswer, heightAnswer, geometricAnswer, basicAnswer, longAnswer}
+use Rattle.gdl90.specs.Messages.{kindAnswer, uplinkAnswer, heightAnswer, geometricAnswer, basicAnswer, longAnswer}
 use Rattle.gdl90.specs.Messages.{WritesHeartbeat, WritesInitialization, WritesUplink, WritesHeight, WritesOwnship, WritesGeometric, WritesTraffic, WritesBasic, WritesLong}
-use Rattle.c_laws.specs.Plain.{plainUplink, plainHeight, plainGeometric, plainBasic, plainLong, plainReport}
+use Rattle.c_laws.specs.Zeroed.{zeroedUplink, zeroedHeight, zeroedGeometric, zeroedBasic, zeroedLong, zeroedReport}
 
--- one kind: what its function for writing answers and leaves, the number and the value that its function for reading answers, and a
--- value with 0 in each field beside a mark
-pub record RoundTrip (X : Type 0) (Typed : X → Type 0) (Writes : X → List ℕ → WriteAnswer → List ℕ → Type 0)
-    (number : List ℕ → ℕ) (value : List ℕ → X) (plain : X → X) : Type 0 where
+-- one kind, with its id: what its function for writing answers and leaves, the number and the value that its function for reading
+-- answers, and a value with 0 in each field beside a mark
+pub record RoundTrip (id : ℕ) (X : Type 0) (Typed : X → Type 0) (Writes : X → List ℕ → WriteAnswer → List ℕ → Type 0)
+    (number : List ℕ → ℕ) (value : List ℕ → X) (zeroed : X → X) : Type 0 where
+  -- `gdl90_kind` says that this function reads it
+  pub named : (m : List ℕ) → number m ≡ 0 → kindAnswer m ≡ record { number = 0; id = id }
   -- what was written reads as that value, with 0 in each field beside a mark
   pub written-read : (x : X) (out left : List ℕ) (a : WriteAnswer) → Typed x → Writes x out a left → a .number ≡ 0
-      → (number (take (a .length) left) ≡ 0) × (value (take (a .length) left) ≡ plain x)
+      → (number (take (a .length) left) ≡ 0) × (value (take (a .length) left) ≡ zeroed x)
   -- what was read, written again where there is room for it, is the same bytes
   pub read-written : (m out left : List ℕ) (a : WriteAnswer) → AreBytes m → number m ≡ 0 → length m ≤ length out → Writes (value m) out a left
       → (a ≡ record { number = 0; length = length m }) × (left ≡ written m out)
 
--- a value of any kind but for two fields whose range is their 16-bit type
+-- no condition: two kinds alone have a field whose range is its 16-bit type
 abbrev pub Any : {X : Type 0} → X → Type 0
 Any x = Unit {0}
 
 -- an uplink's value goes with its payload, which is the message from its fifth byte on
 pub record RoundTrips : Type 0 where
-  pub heartbeat : RoundTrip Heartbeat Any WritesHeartbeat (λ m. heartbeatRead m .number) (λ m. heartbeatRead m .heartbeat) (λ h. h)
+  pub heartbeat : RoundTrip 0 Heartbeat Any WritesHeartbeat (λ m. heartbeatRead m .number) (λ m. heartbeatRead m .heartbeat) (λ h. h)
   pub initialization :
-      RoundTrip Initialization Any WritesInitialization (λ m. initializationRead m .number) (λ m. initializationRead m .initialization) (λ i. i)
+      RoundTrip 2 Initialization Any WritesInitialization (λ m. initializationRead m .number) (λ m. initializationRead m .initialization) (λ i. i)
   pub uplink :
-      RoundTrip (FlatUplink × List ℕ) Any (λ x. WritesUplink (x .0) (x .1)) (λ m. uplinkAnswer m .number) (λ m. (uplinkAnswer m .uplink, drop 4 m))
-      (λ x. (plainUplink (x .0), x .1))
+      RoundTrip 7 (FlatUplink × List ℕ) Any (λ x. WritesUplink (x .0) (x .1)) (λ m. uplinkAnswer m .number) (λ m. (uplinkAnswer m .uplink, drop 4 m))
+      (λ x. (zeroedUplink (x .0), x .1))
   pub height :
-      RoundTrip FlatHeight (λ h. mag (h .height .feet) < 0x8000) WritesHeight (λ m. heightAnswer m .number) (λ m. heightAnswer m .height) plainHeight
-  pub ownship : RoundTrip FlatReport Any WritesOwnship (λ m. ownshipRead m .number) (λ m. ownshipRead m .report) plainReport
+      RoundTrip 9 FlatHeight (λ h. mag (h .height .feet) < 0x8000) WritesHeight (λ m. heightAnswer m .number) (λ m. heightAnswer m .height) zeroedHeight
+  pub ownship : RoundTrip 10 FlatReport Any WritesOwnship (λ m. ownshipRead m .number) (λ m. ownshipRead m .report) zeroedReport
   pub geometric :
-      RoundTrip FlatGeometric (λ g. mag (g .altitude .steps) < 0x8000) WritesGeometric (λ m. geometricAnswer m .number)
-      (λ m. geometricAnswer m .geometric) plainGeometric
-  pub traffic : RoundTrip FlatReport Any WritesTraffic (λ m. trafficRead m .number) (λ m. trafficRead m .report) plainReport
-  pub basic : RoundTrip FlatBasic Any WritesBasic (λ m. basicAnswer m .number) (λ m. basicAnswer m .basic) plainBasic
-  pub long : RoundTrip FlatLong Any WritesLong (λ m. longAnswer m .number) (λ m. longAnswer m .long) plainLong
+      RoundTrip 11 FlatGeometric (λ g. mag (g .altitude .steps) < 0x8000) WritesGeometric (λ m. geometricAnswer m .number)
+      (λ m. geometricAnswer m .geometric) zeroedGeometric
+  pub traffic : RoundTrip 20 FlatReport Any WritesTraffic (λ m. trafficRead m .number) (λ m. trafficRead m .report) zeroedReport
+  pub basic : RoundTrip 30 FlatBasic Any WritesBasic (λ m. basicAnswer m .number) (λ m. basicAnswer m .basic) zeroedBasic
+  pub long : RoundTrip 31 FlatLong Any WritesLong (λ m. longAnswer m .number) (λ m. longAnswer m .long) zeroedLong
 
 -- writing is refused with 8, and nothing is written
 abbrev pub Refused8 : (List ℕ → WriteAnswer → List ℕ → Type 0) → Type 0

@@ -1,2 +1,2 @@
-pub mod Plain
+pub mod Zeroed
 pub mod Claims

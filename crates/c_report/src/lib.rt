@@ -1,7 +1,6 @@
 // A report as a struct of numbers, for callers that know no enums, such as C's, there and back.
 ghost use mathlib.Core.Path.{_≡_};
-ghost use Rattle.c_report.specs.Flat.{positionMark, latitudeOf, longitudeOf, positionFrom, altitudeMark, altitudeSteps, altitudeFrom};
-ghost use Rattle.c_report.specs.Flat.{trackNumber, trackFrom, speedMark, speedKnots, speedFrom, climbMark, climbSteps, climbFrom, flatReport, reportFrom};
+ghost use Rattle.c_report.specs.Flat.{positionFrom, altitudeFrom, trackNumber, trackFrom, speedFrom, climbFrom, reportFrom};
 use message_types::Altitude;
 use message_types::Bytes8;
 use message_types::Climb;
@@ -43,42 +42,6 @@ pub struct FlatReportRead {
     pub report: FlatReport,
 }
 
-fn position_mark(position: Position) -> u8
-    ensures { λ r. ⌜ r ≡ positionMark position ⌝ }
-{
-    match position {
-        Position::At {
-            latitude: _,
-            longitude: _,
-        } => 0,
-        Position::None => 1,
-    }
-}
-
-fn latitude_of(position: Position) -> i32
-    ensures { λ r. ⌜ r ≡ latitudeOf position ⌝ }
-{
-    match position {
-        Position::At {
-            latitude,
-            longitude: _,
-        } => latitude,
-        Position::None => 0,
-    }
-}
-
-fn longitude_of(position: Position) -> i32
-    ensures { λ r. ⌜ r ≡ longitudeOf position ⌝ }
-{
-    match position {
-        Position::At {
-            latitude: _,
-            longitude,
-        } => longitude,
-        Position::None => 0,
-    }
-}
-
 fn position_from(mark: u8, latitude: i32, longitude: i32) -> Position
     ensures { λ r. ⌜ r ≡ positionFrom mark latitude longitude ⌝ }
 {
@@ -94,24 +57,6 @@ fn position_from(mark: u8, latitude: i32, longitude: i32) -> Position
     Position::At {
         latitude: 4194305,
         longitude: 0,
-    }
-}
-
-fn altitude_mark(altitude: Altitude) -> u8
-    ensures { λ r. ⌜ r ≡ altitudeMark altitude ⌝ }
-{
-    match altitude {
-        Altitude::Known(_) => 0,
-        Altitude::None => 1,
-    }
-}
-
-fn altitude_steps(altitude: Altitude) -> PressureSteps
-    ensures { λ r. ⌜ r ≡ altitudeSteps altitude ⌝ }
-{
-    match altitude {
-        Altitude::Known(steps) => steps,
-        Altitude::None => PressureSteps { steps: 0 },
     }
 }
 
@@ -153,26 +98,6 @@ pub fn track_from(number: u8) -> TrackKind
     TrackKind::TrueHeading
 }
 
-fn speed_mark(speed: Speed) -> u8
-    ensures { λ r. ⌜ r ≡ speedMark speed ⌝ }
-{
-    match speed {
-        Speed::Knots(_) => 0,
-        Speed::None => 1,
-        Speed::Over => 2,
-    }
-}
-
-fn speed_knots(speed: Speed) -> u16
-    ensures { λ r. ⌜ r ≡ speedKnots speed ⌝ }
-{
-    match speed {
-        Speed::Knots(n) => n,
-        Speed::None => 0,
-        Speed::Over => 0,
-    }
-}
-
 fn speed_from(mark: u8, knots: u16) -> Speed
     ensures { λ r. ⌜ r ≡ speedFrom mark knots ⌝ }
 {
@@ -186,28 +111,6 @@ fn speed_from(mark: u8, knots: u16) -> Speed
         return Speed::Over;
     }
     Speed::Knots(0xFFF)
-}
-
-fn climb_mark(climb: Climb) -> u8
-    ensures { λ r. ⌜ r ≡ climbMark climb ⌝ }
-{
-    match climb {
-        Climb::Steps(_) => 0,
-        Climb::None => 1,
-        Climb::Above => 2,
-        Climb::Below => 3,
-    }
-}
-
-fn climb_steps(climb: Climb) -> i32
-    ensures { λ r. ⌜ r ≡ climbSteps climb ⌝ }
-{
-    match climb {
-        Climb::Steps(n) => n,
-        Climb::None => 0,
-        Climb::Above => 0,
-        Climb::Below => 0,
-    }
 }
 
 fn climb_from(mark: u8, steps: i32) -> Climb
@@ -226,41 +129,6 @@ fn climb_from(mark: u8, steps: i32) -> Climb
         return Climb::Below;
     }
     Climb::Steps(510)
-}
-
-pub fn flat_report(report: Report) -> FlatReport
-    ensures { λ r. ⌜ r ≡ flatReport report ⌝ }
-{
-    let position = report.position;
-    let altitude = report.altitude;
-    let kind = report.track_kind;
-    let speed = report.speed;
-    let climb = report.climb;
-    let call_sign = report.call_sign;
-    FlatReport {
-        alert: report.alert,
-        address_type: report.address_type,
-        address: report.address,
-        position_mark: position_mark(position),
-        latitude: latitude_of(position),
-        longitude: longitude_of(position),
-        altitude_mark: altitude_mark(altitude),
-        altitude: altitude_steps(altitude),
-        track_kind: track_number(kind),
-        extrapolated: report.extrapolated,
-        airborne: report.airborne,
-        integrity: report.integrity,
-        accuracy: report.accuracy,
-        speed_mark: speed_mark(speed),
-        speed: speed_knots(speed),
-        climb_mark: climb_mark(climb),
-        climb: climb_steps(climb),
-        track: report.track,
-        emitter: report.emitter,
-        call_sign,
-        priority: report.priority,
-        spare: report.spare,
-    }
 }
 
 pub fn report_from(flat: FlatReport) -> Report

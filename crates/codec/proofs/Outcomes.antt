@@ -83,6 +83,20 @@ module _ {X R : Type 0} (id size : ℕ) (value : List ℕ → X) (good : X → B
       go true e false g h = absurd (omega (arith, tells 8))
       go false e u g h = absurd (eqb-false _ 0 e (sym (tells _) ∙ h))
 
+  -- and a number other than 0 is that of the refusal
+  pub refused-as : (number : R → ℕ) → ((k : ℕ) → number (refusal k) ≡ k) → ((x : X) → number (accepted x) ≡ 0)
+      → (number (reading id size value good accepted refusal m) ≡ 0 → ⊥)
+      → refusal (number (reading id size value good accepted refusal m)) ≡ reading id size value good accepted refusal m
+  unfolding reading
+  refused-as number tells zero = go (eqb (misfit id size m) 0) (good (value m))
+    where
+      go : (t u : Bool) → (number (cond t (cond u (accepted (value m)) (refusal 8)) (refusal (misfit id size m))) ≡ 0 → ⊥)
+          → refusal (number (cond t (cond u (accepted (value m)) (refusal 8)) (refusal (misfit id size m))))
+          ≡ cond t (cond u (accepted (value m)) (refusal 8)) (refusal (misfit id size m))
+      go true true h = absurd (h (zero (value m)))
+      go true false h = ap refusal (tells 8)
+      go false u h = ap refusal (tells _)
+
   -- where the value that the bytes hold is good, 8 is not given
   pub never-8 : (number : R → ℕ) → ((k : ℕ) → number (refusal k) ≡ k) → ((x : X) → number (accepted x) ≡ 0) → good (value m) ≡ true
       → number (reading id size value good accepted refusal m) ≡ misfit id size m

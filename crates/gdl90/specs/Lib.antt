@@ -1,4 +1,4 @@
 pub mod Degrees
-pub mod Face
+pub mod Collecting
 pub mod Payload
 pub mod Messages

@@ -2,10 +2,10 @@
 -- Assumes nothing.
 use mathlib.Core.Path.{_≡_}
 use Prim.Native.Nat.{ℕ}
-use mathlib.Core.Bool.{Bool, _&&_}
+use mathlib.Core.Bool.{Bool, cond, _&&_}
 use mathlib.Core.List.{List}
-use lib.Dec.{leb}
-use lib.ListN.{length}
+use lib.Dec.{eqb, leb}
+use lib.ListN.{length, getD}
 use Rattle.numbers.specs.Lent.{written}
 use Rattle.codec.specs.declared.Written.{Written}
 use Rattle.codec.specs.Writing.{writtenNumber, writtenSize, writtenOutput, writing}
@@ -19,10 +19,9 @@ use Rattle.message_types.specs.declared.Heartbeat.{Heartbeat}
 use Rattle.message_types.specs.declared.Initialization.{Initialization}
 use Rattle.message_types.specs.declared.Ownship.{Ownship}
 use Rattle.message_types.specs.declared.Traffic.{Traffic}
-use Rattle.report.specs.Bytes.{ownshipBytes, trafficBytes}
-use Rattle.report.specs.Reading.{goodReport}
-use Rattle.messages.specs.declared.Kind.{Kind}
-use Rattle.messages.specs.Message.{kindNumber, idOf}
+use Rattle.report.specs.Bytes.{reportBytes, ownshipBytes, trafficBytes}
+use Rattle.report.specs.Reading.{goodReport, isReportId}
+use Rattle.messages.specs.Message.{kindIn, kindNumber}
 use Rattle.gdl90.specs.declared.KindAnswer.{KindAnswer}
 use Rattle.gdl90.specs.declared.WriteAnswer.{WriteAnswer}
 use Rattle.c_report.specs.declared.FlatReport.{FlatReport}
@@ -39,8 +38,9 @@ use Rattle.c_structs.specs.declared.FlatLongRead.{FlatLongRead}
 use Rattle.c_structs.specs.Flat.{flatUplink, uplinkFrom, flatHeight, terrainFrom, flatGeometric, geometricFrom, flatBasic, basicFrom, flatLong, longFrom}
 use Rattle.c_report.specs.Flat.{reportFrom}
 
-abbrev pub kindAnswer : Kind → KindAnswer
-kindAnswer k = record { number = kindNumber k; id = idOf k }
+-- which kind a message is: 6, or its id, which is the first byte
+abbrev pub kindAnswer : List ℕ → KindAnswer
+kindAnswer m = record { number = kindNumber (kindIn m); id = cond (eqb (kindNumber (kindIn m)) 0) (getD m 0 0) 0 }
 
 abbrev pub uplinkAnswer : List ℕ → FlatUplinkRead
 uplinkAnswer m = record { number = uplinkRead m .number; uplink = flatUplink (uplinkRead m .uplink) }
@@ -99,6 +99,11 @@ trafficFrom f = record { report = reportFrom f }
 -- a number that is no track kind is a field outside its range
 abbrev pub goodFlatReport : FlatReport → Bool
 goodFlatReport f = leb (f .«track_kind») 3 && goodReport (reportFrom f)
+
+-- of the report's kind with this id
+abbrev pub WritesReport : ℕ → FlatReport → List ℕ → WriteAnswer → List ℕ → Type 0
+WritesReport id f =
+    AnsweredWriting (leb (f .«track_kind») 3 && (isReportId id && goodReport (reportFrom f))) (reportBytes id (reportFrom f))
 
 abbrev pub WritesOwnship : FlatReport → List ℕ → WriteAnswer → List ℕ → Type 0
 WritesOwnship f = AnsweredWriting (goodFlatReport f) (ownshipBytes (ownshipFrom f))

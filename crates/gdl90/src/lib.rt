@@ -5,17 +5,17 @@ ghost use Rattle.numbers.specs.Lent.{written};
 ghost use Rattle.fcs.specs.Fcs.{fcs};
 ghost use Rattle.framing.specs.Framing.{framing, framedOutput};
 ghost use Rattle.collecting.specs.Step.{held};
-ghost use Rattle.collecting.specs.Stream.{run};
+ghost use Rattle.collecting.specs.Stream.{answerNumber, messageLength, run};
 ghost use Rattle.heartbeat.specs.Heartbeat.{heartbeatRead};
 ghost use Rattle.initialization.specs.Initialization.{initializationRead};
 ghost use Rattle.report.specs.Reading.{ownshipRead, trafficRead};
 ghost use Rattle.gdl90.specs.Messages.{kindAnswer, uplinkAnswer, heightAnswer, geometricAnswer, basicAnswer, longAnswer, writeAnswer};
-ghost use Rattle.gdl90.specs.Messages.{WritesHeartbeat, WritesInitialization, WritesUplink, WritesHeight, WritesOwnship, WritesGeometric, WritesTraffic, WritesBasic, WritesLong};
-ghost use Rattle.messages.specs.Message.{kindIn, kindNumber, idOf};
+ghost use Rattle.gdl90.specs.Messages.{WritesHeartbeat, WritesInitialization, WritesUplink, WritesHeight, WritesReport, WritesOwnship, WritesGeometric, WritesTraffic, WritesBasic, WritesLong};
+ghost use Rattle.messages.specs.Message.{kindNumber};
 ghost use Rattle.uplink.specs.Walk.{payloadFrames};
 ghost use Rattle.uplink.specs.Answers.{frameList, nthFrame};
 ghost use Rattle.uplink.specs.Adding.{adding, addedNumber, payloadAfter};
-ghost use Rattle.gdl90.specs.Face.{frameAnswer, phaseNumber, phaseOf, controlOf, answerNumber, messageLength, feedAnswer, ranAnswer};
+ghost use Rattle.gdl90.specs.Collecting.{frameAnswer, phaseNumber, phaseOf, controlOf, feedAnswer, ranAnswer};
 ghost use Rattle.units.specs.Degrees.{inDegrees};
 ghost use Rattle.units.specs.Feet.{pressureFeet, geometricFeet, terrainFeet};
 ghost use Rattle.gdl90.specs.Payload.{listAnswer, nthAnswer};
@@ -85,14 +85,8 @@ fn frame_answer(framed: Framed) -> FrameAnswer
     ensures { λ r. ⌜ r ≡ frameAnswer framed ⌝ }
 {
     match framed {
-        Framed::Bytes(n) => FrameAnswer {
-            number: 0,
-            length: n,
-        },
-        Framed::Refused(k) => FrameAnswer {
-            number: k,
-            length: 0,
-        },
+        Framed::Bytes(length) => FrameAnswer { number: 0, length },
+        Framed::Refused(number) => FrameAnswer { number, length: 0 },
     }
 }
 
@@ -217,7 +211,7 @@ fn message_length(answer: Answer) -> usize
     }
 }
 
-// 01's number, 6 where the message is of no kind; and the kind's id.
+// 01's number, 6 where the message is of no kind; and the kind's id, which is the first byte.
 #[repr(C)]
 pub struct KindAnswer {
     pub number: u8,
@@ -227,13 +221,14 @@ pub struct KindAnswer {
 // `messages::kind_in`: which of the functions below reads the message.
 #[no_mangle]
 pub extern "C" fn gdl90_kind(message: &[u8]) -> KindAnswer
-    ensures { λ r. ⌜ r ≡ kindAnswer (kindIn (now (message .entry))) ⌝ }
+    ensures { λ r. ⌜ r ≡ kindAnswer (now (message .entry)) ⌝ }
 {
-    let kind = messages::kind_in(message);
-    KindAnswer {
-        number: kind_number(kind),
-        id: id_of(kind),
+    let number = kind_number(messages::kind_in(message));
+    if number != 0 {
+        return KindAnswer { number, id: 0 };
     }
+    let id = message[0];
+    KindAnswer { number, id }
 }
 
 fn kind_number(kind: Kind) -> u8
@@ -250,23 +245,6 @@ fn kind_number(kind: Kind) -> u8
         Kind::Basic => 0,
         Kind::Long => 0,
         Kind::Unknown => 6,
-    }
-}
-
-fn id_of(kind: Kind) -> u8
-    ensures { λ r. ⌜ r ≡ idOf kind ⌝ }
-{
-    match kind {
-        Kind::Heartbeat => Heartbeat::ID,
-        Kind::Initialization => Initialization::ID,
-        Kind::Uplink => message_types::Uplink::ID,
-        Kind::Height => message_types::HeightAboveTerrain::ID,
-        Kind::Ownship => Ownship::ID,
-        Kind::Geometric => message_types::GeometricAltitude::ID,
-        Kind::Traffic => Traffic::ID,
-        Kind::Basic => message_types::BasicPassThrough::ID,
-        Kind::Long => message_types::LongPassThrough::ID,
-        Kind::Unknown => 0,
     }
 }
 
@@ -417,15 +395,7 @@ pub extern "C" fn gdl90_write_height(height: FlatHeight, out: &mut [u8]) -> Writ
 pub extern "C" fn gdl90_write_ownship(report: FlatReport, out: &mut [u8]) -> WriteAnswer
     ensures { λ r. ⌜ WritesOwnship report (now (out .entry)) r (now (out .exit)) ⌝ }
 {
-    if report.track_kind <= LAST_TRACK_KIND {
-        let report = c_report::report_from(report);
-        let written = report::write_ownship(Ownship { report }, out);
-        return write_answer(written);
-    }
-    WriteAnswer {
-        number: 8,
-        length: 0,
-    }
+    write_report(Ownship::ID, report, out)
 }
 
 #[no_mangle]
@@ -441,15 +411,7 @@ pub extern "C" fn gdl90_write_geometric(geometric: FlatGeometric, out: &mut [u8]
 pub extern "C" fn gdl90_write_traffic(report: FlatReport, out: &mut [u8]) -> WriteAnswer
     ensures { λ r. ⌜ WritesTraffic report (now (out .entry)) r (now (out .exit)) ⌝ }
 {
-    if report.track_kind <= LAST_TRACK_KIND {
-        let report = c_report::report_from(report);
-        let written = report::write_traffic(Traffic { report }, out);
-        return write_answer(written);
-    }
-    WriteAnswer {
-        number: 8,
-        length: 0,
-    }
+    write_report(Traffic::ID, report, out)
 }
 
 #[no_mangle]
@@ -468,6 +430,21 @@ pub extern "C" fn gdl90_write_long(long: FlatLong, out: &mut [u8]) -> WriteAnswe
     let value = c_structs::long_from(long);
     let written = passing::write_long_pass_through(value, out);
     write_answer(written)
+}
+
+// Of either kind.
+fn write_report(id: u8, flat: FlatReport, out: &mut [u8]) -> WriteAnswer
+    ensures { λ r. ⌜ WritesReport id flat (now (out .entry)) r (now (out .exit)) ⌝ }
+{
+    if flat.track_kind <= LAST_TRACK_KIND {
+        let report = c_report::report_from(flat);
+        let written = report::write_report(id, report, out);
+        return write_answer(written);
+    }
+    WriteAnswer {
+        number: 8,
+        length: 0,
+    }
 }
 
 fn write_answer(written: Written) -> WriteAnswer

@@ -42,7 +42,7 @@ kindOf id =
 unfoldable pub kindIn : List ℕ → Kind
 kindIn m = cond (eqb (length m) 0) kind.Unknown (kindOf (getD m 0 0))
 
--- 01's number and the kind's id for each kind: 6 where it is none
+-- 01's number for each kind: 6 where it is none
 abbrev pub kindNumber : Kind → ℕ
 kindNumber kind.Heartbeat = 0
 kindNumber kind.Initialization = 0
@@ -54,18 +54,6 @@ kindNumber kind.Traffic = 0
 kindNumber kind.Basic = 0
 kindNumber kind.Long = 0
 kindNumber kind.Unknown = 6
-
-abbrev pub idOf : Kind → ℕ
-idOf kind.Heartbeat = 0
-idOf kind.Initialization = 2
-idOf kind.Uplink = 7
-idOf kind.Height = 9
-idOf kind.Ownship = 10
-idOf kind.Geometric = 11
-idOf kind.Traffic = 20
-idOf kind.Basic = 30
-idOf kind.Long = 31
-idOf kind.Unknown = 0
 
 abbrev pub readAs : Kind → List ℕ → Reading
 readAs kind.Heartbeat m = readHeartbeat m

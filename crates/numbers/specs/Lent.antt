@@ -25,5 +25,5 @@ behind start at = (at .0, start + at .1)
 
 -- what is handed back is that stretch of the lent bytes, in their own memory
 pub record Part (start size : ℕ) (whole : List ℕ) (at : ℕ × ℕ) (part : List ℕ) (place : ℕ × ℕ) : Type 0 where
-  pub content : part ≡ stretch start size whole
-  pub position : place ≡ behind start at
+  pub holds : part ≡ stretch start size whole
+  pub stands : place ≡ behind start at

@@ -1,25 +1,21 @@
 -- Laws of the uplink.
 -- Assumes nothing.
 use mathlib.Core.Path.{_≡_, refl, sym, ap, _∙_}
-use mathlib.Core.Bool.{Bool, true, false, cond}
 use Prim.Native.Nat.{ℕ}
 use mathlib.Core.List.{List}
 use native.Mathlib.Omega.{arith}
-use lib.Dec.{eqb}
 use lib.ListN.{length}
 use lib.Seq.{take-all}
-use borrow.Author.Tests.{eqb-true, eqb-false, eq-eqb, ne-eqb}
+use borrow.Author.Tests.{eq-eqb, ne-eqb}
 use Rattle.numbers.specs.Lent.{written}
 use Rattle.codec.specs.declared.Written.{Written}
 use Rattle.codec.specs.declared.Written.the-variants.{Refused as RefusedWriting}
 use Rattle.codec.specs.Reading.{misfit, reading}
 use Rattle.codec.proofs.Outcomes.{accepted-as}
-use Rattle.message_types.specs.declared.Reception.the-variants.{Steps}
-use Rattle.passing.specs.Reception.{receptionIn}
 use Rattle.codec.specs.Writing.{Wrote}
 use Rattle.message_types.specs.declared.Uplink.{Uplink}
 use Rattle.message_types.specs.declared.UplinkRead.{UplinkRead}
-use Rattle.passing.specs.Uplink.{uplinkIn, goodUplink, uplinkBytes, uplinkRefused, uplinkRead, payloadOf, writingUplink, WroteUplink}
+use Rattle.passing.specs.Uplink.{uplinkIn, goodUplink, uplinkBytes, uplinkRefused, uplinkRead, writingUplink, WroteUplink}
 use Rattle.passing.specs.Claims.{UplinkWrittenRead, UplinkReadWritten}
 use Rattle.passing.proofs.Receptions.{kept, whole-drop}
 

@@ -5,8 +5,10 @@ use mathlib.Core.List.{List}
 use Prim.Native.Nat.{ℕ, _<_}
 use native.Mathlib.Omega.{arith}
 use lib.Dec.{eqb}
+use lib.ListN.{getD}
 use borrow.Author.Tests.{ltb-true, leb-true}
 use Rattle.numbers.proofs.Every.{both}
+use Rattle.numbers.proofs.Bytes.{byte-at}
 use Rattle.c_report.specs.Flat.{trackFrom}
 use Rattle.c_report.proofs.Laws.{tracks}
 use Rattle.report.specs.Marks.{positionOf, altitudeOf, speedOf, climbOf}
@@ -35,7 +37,9 @@ same-codes m f =
 
 pub read-written : ReportReadWritten
 unfolding reportBytes
-read-written id m long bytes e = ap (packed id (reportIn m)) (same-codes m (fit-in m bytes)) ∙ bytes-back m bytes id long e
+read-written id m long bytes e =
+    let b : (i : ℕ) → getD m i 0 < 256 = λ i. byte-at m i bytes in
+    ap (packed id (reportIn m)) (same-codes m (fit-in m b)) ∙ bytes-back m b id long e
 
 pub written-read : ReportWrittenRead
 unfolding goodReport reportIn reportBytes codesOf

@@ -1,3 +1,4 @@
 pub mod Laws
 pub mod Marked
 pub mod Packing
+pub mod Good

@@ -11,7 +11,7 @@ use borrow.Author.Tests.{ne-eqb, ltb-true, eqb-true, leb-true, le-leb, lt-leb}
 use Rattle.numbers.proofs.Every.{both, chosen, every, at}
 use Rattle.numbers.proofs.Signed.{field-signed, signed-field, field-fits}
 use Rattle.numbers.specs.Signed.{signedIn, fieldOf}
-use Rattle.c_report.specs.Flat.{trackNumber, trackFrom}
+use Rattle.c_report.specs.Flat.{latitudeOf, longitudeOf, trackNumber, trackFrom, climbMark, climbSteps}
 use Rattle.report.specs.Marks.{noneMark, positionOf, isNone, placeOf, altitudeOf, stepsOr, asBit, speedOf, knotsOr, climbOf, climbOr}
 use Rattle.report.specs.Reading.{between, isZero, goodPosition}
 use Rattle.message_types.specs.declared.Position.{Position}
@@ -126,7 +126,7 @@ position-code lat lon i h k = go (noneMark lat lon i) refl
         (sym (eqb-true lat 0 (z .0)), sym (eqb-true lon 0 (z .1)))
     go false e = (field-signed 0x800000 lat (omega arith), field-signed 0x800000 lon (omega arith))
 
-zero-code : (z : ℤ) → mag z < 0x800000 → eqb (degreeCode z) 0 ≡ isZero z
+pub zero-code : (z : ℤ) → mag z < 0x800000 → eqb (degreeCode z) 0 ≡ isZero z
 unfolding fieldOf
 zero-code (pos zero) h = refl
 zero-code (pos (suc n)) h = simp (ne-eqb (suc n) 0 (λ e. omega arith), le-leb 0 (suc n) (omega arith), lt-leb (suc n) 0 (omega arith))
@@ -157,3 +157,39 @@ position-back p i g =
     go (At lat lon) h k false e = λ j. At (signed-field 0x800000 lat h j) (signed-field 0x800000 lon k j)
     go no-position h k true e = refl
     go no-position h k false e = cc
+
+-- ---- what reading into numbers uses
+
+-- a climb without a mark is the number in the bits; beside a mark stands 0
+pub climb-plain : (v : ℕ) → climbMark (climbOf v) ≡ 0 → climbSteps (climbOf v) ≡ signedIn 0x800 v
+unfolding climbOf
+climb-plain v = go (eqb v 0x800) (eqb v 0x1FE) (eqb v 0xE02)
+  where
+    made : Bool → Bool → Bool → Climb
+    made a b d = cond a no-climb (cond b Above (cond d Below (Steps (signedIn 0x800 v))))
+
+    go : (a b d : Bool) → climbMark (made a b d) ≡ 0 → climbSteps (made a b d) ≡ signedIn 0x800 v
+    go true b d e = absurd (omega arith)
+    go false true d e = absurd (omega arith)
+    go false false true e = absurd (omega arith)
+    go false false false e = refl
+
+pub climb-marked : (c : Climb) → (climbMark c ≡ 0 → ⊥) → climbSteps c ≡ pos 0
+climb-marked (Steps z) h = absurd (h refl)
+climb-marked Above h = refl
+climb-marked Below h = refl
+climb-marked no-climb h = refl
+
+-- latitude and longitude are the numbers in the bits, also where they are none
+pub degrees-in : (lat lon i : ℕ) → (latitudeOf (positionOf lat lon i) ≡ signedIn 0x800000 lat) × (longitudeOf (positionOf lat lon i) ≡ signedIn 0x800000 lon)
+unfolding positionOf signedIn
+degrees-in lat lon i = go (noneMark lat lon i) refl
+  where
+    made : Bool → Position
+    made b = cond b no-position (At (signedIn 0x800000 lat) (signedIn 0x800000 lon))
+
+    go : (b : Bool) → noneMark lat lon i ≡ b → (latitudeOf (made b) ≡ signedIn 0x800000 lat) × (longitudeOf (made b) ≡ signedIn 0x800000 lon)
+    go true e =
+        let z = both (eqb lat 0) (eqb lon 0) (both (eqb lat 0 && eqb lon 0) (eqb i 0) e .0) in
+        (ap (signedIn 0x800000) (sym (eqb-true lat 0 (z .0))), ap (signedIn 0x800000) (sym (eqb-true lon 0 (z .1))))
+    go false e = (refl, refl)

@@ -7,9 +7,8 @@ use native.Mathlib.Omega.{arith}
 use lib.Dec.{eqb}
 use lib.ListN.{length, getD}
 use borrow.Author.Tests.{eqb-true}
-use Rattle.numbers.specs.Bytes.{AreBytes}
 use Rattle.numbers.proofs.Every.{every, at}
-use Rattle.numbers.proofs.Bytes.{byte-at, spread}
+use Rattle.numbers.proofs.Bytes.{spread}
 use Rattle.report.specs.Bytes.{three, threeAt, twelveHigh, highAt, twelveLow, codesIn, reportIn, packed}
 use Rattle.report.specs.declared.Codes.{Codes}
 use Rattle.message_types.specs.declared.Report.{Report}
@@ -88,10 +87,7 @@ indicators-back n h = eqb-true _ _ (at (λ k. eqb (indicators-in k) (k % 16)) 25
 lower-kept : (a b : ℕ) → b < 256 → twelveHigh a b % 16 * 16 + b % 16 ≡ b
 lower-kept a b h = omega arith
 
-module _ (m : List ℕ) (bytes : AreBytes m) where
-  b : (i : ℕ) → getD m i 0 < 256
-  b i = byte-at m i bytes
-
+module _ (m : List ℕ) (b : (i : ℕ) → getD m i 0 < 256) where
   pub fit-in : Fit (codesIn m)
   fit-in = record {
     latitude-fits = omega (arith, b 5, b 6, b 7);

@@ -50,6 +50,7 @@ knotsOr (Knots h) over none = h
 knotsOr Over over none = over
 knotsOr no-speed over none = none
 
+-- the climb's marks are 0x1FE, 0xE02 and 0x800
 unfoldable pub climbOf : ℕ → Climb
 climbOf v = cond (eqb v 0x800) no-climb (cond (eqb v 0x1FE) Above (cond (eqb v 0xE02) Below (Steps (signedIn 0x800 v))))
 

@@ -1,7 +1,7 @@
 -- Which reports are good, in both directions, and what reading answers (01).
 -- Assumes nothing.
 use Prim.Native.Nat.{ℕ}
-use mathlib.Core.Bool.{Bool, false, Bool·beq, cond, _&&_}
+use mathlib.Core.Bool.{Bool, false, Bool·beq, _&&_, _||_}
 use mathlib.Core.List.{List}
 use lib.Dec.{eqb, ltb, leb}
 use lib.IntN.{ℤ, pos, negsuc}
@@ -24,7 +24,7 @@ between low high z = leZ low z && leZ z high
 abbrev pub isZero : ℤ → Bool
 isZero = between (pos 0) (pos 0)
 
--- the ranges of 01 (`negsuc k` is -(k + 1)): latitude from pole to pole, climb both ways, integrity and accuracy
+-- the ranges of 01 (`negsuc k` is -(k + 1)): latitude from pole to pole, climb from -509 to 509, integrity and accuracy to 11
 abbrev pub southPole : ℤ
 southPole = negsuc 4194303
 
@@ -102,17 +102,21 @@ reportRefused k = record {
   };
 }
 
--- once its id and length are those of an ownship or of traffic
-abbrev pub reportHeld : List ℕ → FlatReportRead
-reportHeld m = cond (goodReport (reportIn m)) (reportAccepted (reportIn m)) (reportRefused 8)
+-- of the kind with this id and length: 01's number with the value in numbers
+abbrev pub reportRead : ℕ → ℕ → List ℕ → FlatReportRead
+reportRead id size = reading id size reportIn goodReport reportAccepted reportRefused
 
--- 01's number with the value in numbers, and the typed value as a message of whatever kind
 abbrev pub ownshipRead : List ℕ → FlatReportRead
-ownshipRead = reading 10 28 reportIn goodReport reportAccepted reportRefused
+ownshipRead = reportRead 10 28
 
 abbrev pub trafficRead : List ℕ → FlatReportRead
-trafficRead = reading 20 28 reportIn goodReport reportAccepted reportRefused
+trafficRead = reportRead 20 28
 
+-- an ownship's, or a traffic report's
+abbrev pub isReportId : ℕ → Bool
+isReportId id = eqb id 10 || eqb id 20
+
+-- the typed value as a message of whatever kind
 abbrev pub readOwnship : List ℕ → Reading
 readOwnship = reading 10 28 reportIn goodReport (λ r. accepted (Ownship (record { report = r }))) Refused
 

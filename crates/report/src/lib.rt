@@ -1,13 +1,15 @@
 // Ownship and traffic reports (001 §3.4, §3.5): two kinds, of one format.
 ghost use mathlib.Core.Path.{_≡_};
+ghost use mathlib.Core.Bool.{_&&_};
 ghost use Prim.Native.Nat.{_+_, _-_, _<_, _≤_};
 ghost use lib.ListN.{length};
 ghost use Rattle.codec.specs.Writing.{Wrote};
 ghost use Rattle.numbers.specs.Signed.{signedIn, fieldOf};
 ghost use Rattle.report.specs.Marks.{stepsOr, knotsOr, climbOr, placeOf, isNone, noneMark, asBit, altitudeOf, speedOf, climbOf, positionOf};
 ghost use Rattle.message_types.specs.Bytes.{eightAt};
+ghost use Rattle.c_report.specs.Flat.{positionMark, altitudeMark, altitudeSteps, speedMark, speedKnots, climbMark, climbSteps, flatReport};
 ghost use Rattle.report.specs.Bytes.{three, threeAt, twelveHigh, highAt, twelveLow, lowAt, codesIn, codesOf, reportIn, packed, reportBytes, ownshipBytes, trafficBytes};
-ghost use Rattle.report.specs.Reading.{between, goodPosition, withinBits, goodReport, reportAccepted, reportRefused, reportHeld, ownshipRead, trafficRead};
+ghost use Rattle.report.specs.Reading.{between, goodPosition, withinBits, goodReport, reportRefused, reportRead, isReportId, ownshipRead, trafficRead};
 use c_report::FlatReport;
 use c_report::FlatReportRead;
 use codec::Written;
@@ -21,7 +23,7 @@ use message_types::Speed;
 use message_types::Traffic;
 use units::PressureSteps;
 
-// The ranges of 01: latitude from pole to pole, climb both ways, integrity and accuracy.
+// The ranges of 01: latitude from pole to pole, climb from -509 to 509, integrity and accuracy to 11.
 const SOUTH_POLE: i32 = -4194304;
 
 const NORTH_POLE: i32 = 4194304;
@@ -37,41 +39,150 @@ const LAST_ACCURACY: u8 = 11;
 pub fn read_ownship(message: &[u8]) -> FlatReportRead
     ensures { λ r. ⌜ r ≡ ownshipRead (now (message .entry)) ⌝ }
 {
-    let misfit = codec::misfit(message, Ownship::ID, Ownship::LENGTH);
-    if misfit != 0 {
-        return report_refused(misfit);
-    }
-    report_held(message)
+    read_report(message, Ownship::ID, Ownship::LENGTH)
 }
 
 pub fn read_traffic(message: &[u8]) -> FlatReportRead
     ensures { λ r. ⌜ r ≡ trafficRead (now (message .entry)) ⌝ }
 {
-    let misfit = codec::misfit(message, Traffic::ID, Traffic::LENGTH);
-    if misfit != 0 {
-        return report_refused(misfit);
-    }
-    report_held(message)
+    read_report(message, Traffic::ID, Traffic::LENGTH)
 }
 
-// Of either kind.
-fn report_held(message: &[u8]) -> FlatReportRead
-    requires { ⌜ length (now message) ≡ 28 ⌝ }
-    ensures { λ r. ⌜ r ≡ reportHeld (now (message .entry)) ⌝ }
+// Of either kind, both of which have 28 bytes.
+fn read_report(message: &[u8], id: u8, length: usize) -> FlatReportRead
+    requires { ⌜ length ≡ 28 ⌝ }
+    ensures { λ r. ⌜ r ≡ reportRead id length (now (message .entry)) ⌝ }
 {
-    let report = report_in(message);
-    if is_good_report(report) {
-        report_accepted(report)
-    } else {
-        report_refused(8)
+    let number = report_number(message, id, length);
+    if number != 0 {
+        return report_refused(number);
     }
-}
-
-fn report_accepted(report: Report) -> FlatReportRead
-    ensures { λ r. ⌜ r ≡ reportAccepted report ⌝ }
-{
-    let report = c_report::flat_report(report);
+    let report = numbers_in(message);
     FlatReportRead { number: 0, report }
+}
+
+fn report_number(message: &[u8], id: u8, length: usize) -> u8
+    requires { ⌜ length ≡ 28 ⌝ }
+    ensures { λ r. ⌜ r ≡ reportRead id length (now (message .entry)) .number ⌝ }
+{
+    let misfit = codec::misfit(message, id, length);
+    if misfit != 0 {
+        return misfit;
+    }
+    if holds_good_report(message) { 0 } else { 8 }
+}
+
+// What the bytes can hold of a report that is not good: a latitude, a climb, an integrity or an accuracy outside its range.
+fn holds_good_report(message: &[u8]) -> bool
+    requires { ⌜ length (now message) ≡ 28 ⌝ }
+    ensures { λ r. ⌜ r ≡ goodReport (reportIn (now (message .entry))) ⌝ }
+{
+    let quality = message[13];
+    let latitude = signed_in(three_at(message, 5), 0x800000);
+    let climb = climb_steps(low_at(message, 15));
+    (is_between(latitude, SOUTH_POLE, NORTH_POLE) & is_between(climb, LOWEST_CLIMB, HIGHEST_CLIMB))
+        & ((quality / 16 <= LAST_INTEGRITY) & (quality % 16 <= LAST_ACCURACY))
+}
+
+// The report that the bytes hold, as a struct of numbers. A position that is none has latitude and longitude 0 in the bytes too.
+fn numbers_in(message: &[u8]) -> FlatReport
+    requires { ⌜ length (now message) ≡ 28 ⌝ }
+    ensures { λ r. ⌜ r ≡ flatReport (reportIn (now (message .entry))) ⌝ }
+{
+    let codes = codes_in(message);
+    let target = message[1];
+    let quality = message[13];
+    let last = message[27];
+    FlatReport {
+        alert: target / 16,
+        address_type: target % 16,
+        address: three_at(message, 2),
+        position_mark: position_mark(codes.latitude, codes.longitude, quality / 16),
+        latitude: signed_in(codes.latitude, 0x800000),
+        longitude: signed_in(codes.longitude, 0x800000),
+        altitude_mark: altitude_mark(codes.altitude),
+        altitude: altitude_steps(codes.altitude),
+        track_kind: codes.kind,
+        extrapolated: codes.extrapolated == 1,
+        airborne: codes.airborne == 1,
+        integrity: quality / 16,
+        accuracy: quality % 16,
+        speed_mark: speed_mark(codes.speed),
+        speed: speed_knots(codes.speed),
+        climb_mark: climb_mark(codes.climb),
+        climb: climb_steps(codes.climb),
+        track: message[17],
+        emitter: message[18],
+        call_sign: call_sign_in(message),
+        priority: last / 16,
+        spare: last % 16,
+    }
+}
+
+// A field's mark, and the number beside it, which is 0 with a mark.
+fn position_mark(latitude: u32, longitude: u32, integrity: u8) -> u8
+    ensures { λ r. ⌜ r ≡ positionMark (positionOf latitude longitude integrity) ⌝ }
+{
+    if none_mark(latitude, longitude, integrity) {
+        1
+    } else {
+        0
+    }
+}
+
+fn altitude_mark(code: u16) -> u8
+    ensures { λ r. ⌜ r ≡ altitudeMark (altitudeOf code) ⌝ }
+{
+    if code == 0xFFF { 1 } else { 0 }
+}
+
+fn altitude_steps(code: u16) -> PressureSteps
+    ensures { λ r. ⌜ r ≡ altitudeSteps (altitudeOf code) ⌝ }
+{
+    if code == 0xFFF {
+        return PressureSteps { steps: 0 };
+    }
+    PressureSteps { steps: code }
+}
+
+fn speed_mark(code: u16) -> u8
+    ensures { λ r. ⌜ r ≡ speedMark (speedOf code) ⌝ }
+{
+    if code == 0xFFF {
+        return 1;
+    }
+    if code == 0xFFE { 2 } else { 0 }
+}
+
+fn speed_knots(code: u16) -> u16
+    ensures { λ r. ⌜ r ≡ speedKnots (speedOf code) ⌝ }
+{
+    if code == 0xFFF {
+        return 0;
+    }
+    if code == 0xFFE { 0 } else { code }
+}
+
+// The climb's marks are 0x1FE, 0xE02 and 0x800.
+fn climb_mark(code: u32) -> u8
+    ensures { λ r. ⌜ r ≡ climbMark (climbOf code) ⌝ }
+{
+    if code == 0x800 {
+        return 1;
+    }
+    if code == 0x1FE {
+        return 2;
+    }
+    if code == 0xE02 { 3 } else { 0 }
+}
+
+fn climb_steps(code: u32) -> i32
+    ensures { λ r. ⌜ r ≡ climbSteps (climbOf code) ⌝ }
+{
+    if climb_mark(code) == 0 {
+        return signed_in(code, 0x800);
+    }
+    0
 }
 
 fn report_refused(number: u8) -> FlatReportRead
@@ -118,17 +229,23 @@ pub fn write_traffic(traffic: Traffic, out: &mut [u8]) -> Written
     write_report(Traffic::ID, report, out)
 }
 
-// Of either kind.
-fn write_report(id: u8, report: Report, out: &mut [u8]) -> Written
-    ensures { λ r. ⌜ Wrote (goodReport report) (reportBytes id report) (now (out .entry)) r (now (out .exit)) ⌝ }
+// Of either kind: an id that is neither's is a field outside its range.
+pub fn write_report(id: u8, report: Report, out: &mut [u8]) -> Written
+    ensures { λ r. ⌜ Wrote (isReportId id && goodReport report) (reportBytes id report) (now (out .entry)) r (now (out .exit)) ⌝ }
 {
-    if is_good_report(report) {
+    if is_report_id(id) & is_good_report(report) {
         let codes = codes_of(report);
         let bytes = packed_report(id, report, codes);
         codec::put(&bytes, out)
     } else {
         Written::Refused(8)
     }
+}
+
+fn is_report_id(id: u8) -> bool
+    ensures { λ r. ⌜ r ≡ isReportId id ⌝ }
+{
+    (id == Ownship::ID) | (id == Traffic::ID)
 }
 
 fn is_good_report(report: Report) -> bool
@@ -221,35 +338,6 @@ fn codes_of(report: Report) -> Codes
         airborne: bit_of(report.airborne),
         speed: knots_or(speed, 0xFFE, 0xFFF),
         climb: field_of(climb_or(climb, 510, -510, -2048), 0x800),
-    }
-}
-
-fn report_in(message: &[u8]) -> Report
-    requires { ⌜ length (now message) ≡ 28 ⌝ }
-    ensures { λ r. ⌜ r ≡ reportIn (now (message .entry)) ⌝ }
-{
-    let codes = codes_in(message);
-    let target = message[1];
-    let quality = message[13];
-    let last = message[27];
-    Report {
-        alert: target / 16,
-        address_type: target % 16,
-        address: three_at(message, 2),
-        position: position_of(codes.latitude, codes.longitude, quality / 16),
-        altitude: altitude_of(codes.altitude),
-        track_kind: c_report::track_from(codes.kind),
-        extrapolated: codes.extrapolated == 1,
-        airborne: codes.airborne == 1,
-        integrity: quality / 16,
-        accuracy: quality % 16,
-        speed: speed_of(codes.speed),
-        climb: climb_of(codes.climb),
-        track: message[17],
-        emitter: message[18],
-        call_sign: call_sign_in(message),
-        priority: last / 16,
-        spare: last % 16,
     }
 }
 
@@ -346,18 +434,6 @@ fn twelve_low(a: u8, b: u8) -> u32
     (a as u32) % 16 * 256 + (b as u32)
 }
 
-fn position_of(latitude: u32, longitude: u32, integrity: u8) -> Position
-    ensures { λ r. ⌜ r ≡ positionOf latitude longitude integrity ⌝ }
-{
-    if none_mark(latitude, longitude, integrity) {
-        return Position::None;
-    }
-    Position::At {
-        latitude: signed_in(latitude, 0x800000),
-        longitude: signed_in(longitude, 0x800000),
-    }
-}
-
 fn none_mark(latitude: u32, longitude: u32, integrity: u8) -> bool
     ensures { λ r. ⌜ r ≡ noneMark latitude longitude integrity ⌝ }
 {
@@ -400,15 +476,6 @@ fn is_none(position: Position) -> bool
     }
 }
 
-fn altitude_of(code: u16) -> Altitude
-    ensures { λ r. ⌜ r ≡ altitudeOf code ⌝ }
-{
-    if code == 0xFFF {
-        return Altitude::None;
-    }
-    Altitude::Known(PressureSteps { steps: code })
-}
-
 fn steps_or(altitude: Altitude, none: u16) -> u16
     ensures { λ r. ⌜ r ≡ stepsOr altitude none ⌝ }
 {
@@ -424,18 +491,6 @@ fn bit_of(b: bool) -> u8
     if b { 1 } else { 0 }
 }
 
-fn speed_of(code: u16) -> Speed
-    ensures { λ r. ⌜ r ≡ speedOf code ⌝ }
-{
-    if code == 0xFFF {
-        return Speed::None;
-    }
-    if code == 0xFFE {
-        return Speed::Over;
-    }
-    Speed::Knots(code)
-}
-
 fn knots_or(speed: Speed, over: u16, none: u16) -> u16
     ensures { λ r. ⌜ r ≡ knotsOr speed over none ⌝ }
 {
@@ -444,22 +499,6 @@ fn knots_or(speed: Speed, over: u16, none: u16) -> u16
         Speed::Over => over,
         Speed::None => none,
     }
-}
-
-// The climb's marks are 0x1FE, 0xE02 and 0x800.
-fn climb_of(code: u32) -> Climb
-    ensures { λ r. ⌜ r ≡ climbOf code ⌝ }
-{
-    if code == 0x800 {
-        return Climb::None;
-    }
-    if code == 0x1FE {
-        return Climb::Above;
-    }
-    if code == 0xE02 {
-        return Climb::Below;
-    }
-    Climb::Steps(signed_in(code, 0x800))
 }
 
 fn climb_or(climb: Climb, above: i32, below: i32, none: i32) -> i32

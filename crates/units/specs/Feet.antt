@@ -10,7 +10,7 @@ use Rattle.units.specs.declared.TerrainFeet.{TerrainFeet}
 abbrev pub pressureFeet : PressureSteps → ℤ
 pressureFeet d = pos (d .steps * 25) -ℤ pos 1000
 
--- 5 feet a step
+-- geometric altitude, 5 feet a step
 abbrev pub geometricFeet : GeometricSteps → ℤ
 geometricFeet a = a .steps *ℤ pos 5
 

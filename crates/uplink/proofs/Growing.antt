@@ -13,7 +13,7 @@ use Rattle.uplink.specs.Walk.{Frames, listed, refused, framesBefore, wal
 use Rattle.uplink.specs.Answers.{dataIn}
 use Rattle.uplink.specs.Adding.{withFrame}
 use Rattle.uplink.specs.Contents.{newFrame}
-use Rattle.uplink.proofs.Walking.{before-none, before-both, before-end, short, ended, more, every-walk, every-listing}
+use Rattle.uplink.proofs.Walking.{before-none, before-both, before-end, short, ended, more, every-walk, every-payload}
 
 -- the bytes up to a list's end, followed by others, list its frames and then those of the others
 Grows : ℕ → List ℕ → Frames → Type 0
@@ -51,7 +51,7 @@ continued : (p : List ℕ) {fs : List Frame} {end : ℕ} → payloadFrames p ≡
 unfolding Grows
 continued p {fs} {end} is ys =
     let g : Grows 0 (drop 8 p) (listed fs end) =
-    subst (Grows 0 (drop 8 p)) is (every-listing p (Grows 0 (drop 8 p)) (λ h. grows 0 (drop 8 p)) (λ h. grows-none 0 (drop 8 p)) tt) in
+    subst (Grows 0 (drop 8 p)) is (every-payload p (Grows 0 (drop 8 p)) (λ h. grows 0 (drop 8 p)) (λ h. grows-none 0 (drop 8 p)) tt) in
     let e : end - 0 ≡ end = omega arith in
     rw e at (g .1 ys)
 

@@ -19,7 +19,7 @@ use Rattle.uplink.specs.Answers.{frameList, nthFrame, dataIn, none}
 use Rattle.uplink.specs.Adding.{endOf}
 use Rattle.uplink.specs.Contents.{framesIn}
 use Rattle.uplink.specs.Claims.{AtMost141, Inside, Apart}
-use Rattle.uplink.proofs.Walking.{every-walk, every-listing}
+use Rattle.uplink.proofs.Walking.{every-walk, every-payload}
 
 -- from byte `at` up to byte `end`
 unfoldable pub InRow : ℕ → List Frame → ℕ → Type 0
@@ -46,7 +46,7 @@ Sound p (refused k) = Unit {0}
 
 sound : (p : List ℕ) → Sound p (payloadFrames p)
 unfolding Sound InRow Within
-sound p = every-listing p (Sound p) (λ h. inside h (walk 0 0 (drop 8 p)) (within 0 (drop 8 p))) (λ h. (h, refl, omega arith)) tt
+sound p = every-payload p (Sound p) (λ h. inside h (walk 0 0 (drop 8 p)) (within 0 (drop 8 p))) (λ h. (h, refl, omega arith)) tt
   where
     inside : length p ≡ 432 → (w : Frames) → Within 0 (drop 8 p) w → Sound p w
     inside h (listed fs end) r = (h, r .0, omega (arith, r .1, length-drop 8 p))

@@ -98,9 +98,9 @@ module _ (P : ℕ → List ℕ → Frames → Type 0)
 
 -- what holds of the walk over the application data, of the empty list and of the refusal holds of a payload's list
 module _ (p : List ℕ) (P : Frames → Type 0) (valid : length p ≡ 432 → P (walk 0 0 (drop 8 p))) (empty : length p ≡ 432 → P (listed [] 0)) (refuse : P (refused 7)) where
-  pub every-listing : P (payloadFrames p)
+  pub every-payload : P (payloadFrames p)
   unfolding payloadFrames
-  every-listing = go (eqb (length p) 432) refl (eqb (validBit p) 1)
+  every-payload = go (eqb (length p) 432) refl (eqb (validBit p) 1)
     where
       go : (t : Bool) → eqb (length p) 432 ≡ t → (u : Bool) → P (cond t (cond u (walk 0 0 (drop 8 p)) (listed [] 0)) (refused 7))
       go true e true = valid (eqb-true (length p) 432 e)

@@ -5,7 +5,7 @@ use mathlib.Core.List.{List, _∷_}
 use lib.ListN.{length}
 use Rattle.uplink.specs.declared.Frame.{Frame}
 
--- the length, in nine bits: all of the first byte, then bit 7 of the second
+-- nine bits of length: the first byte whole and bit 7 of the next
 abbrev pub lengthIn : ℕ → ℕ → ℕ
 lengthIn a b = a * 2 + b / 128
 

@@ -29,13 +29,13 @@ pub enum FrameList {
 
 pub enum Found {
     Frame(Frame),
-    // 01's number: 7, 11, 12 as in a listing; 13, no frame with that number
+    // 01's number: 7, 11, 12 as of `list`; 13, no frame with that number
     Refused(u8),
 }
 
 pub enum Added {
     Done,
-    // 01's number: 7, 11, 12 as in a listing; 8, a type over 15 or data not of 1 to 422 bytes; 9, no room
+    // 01's number: 7, 11, 12 as of `list`; 8, a type over 15 or data not of 1 to 422 bytes; 9, no room
     Refused(u8),
 }
 
@@ -139,7 +139,7 @@ fn scan(payload: &[u8], n: usize) -> Walked
     Walked::Listed(count, at, frame)
 }
 
-// The frame at byte `at` whose header is the bytes a and b: the length, in nine bits: all of the first byte, then bit 7 of the second;
+// The frame at byte `at` whose header is the bytes a and b: nine bits of length: the first byte whole and bit 7 of the next;
 // three reserved bits; type in four.
 fn header(at: usize, a: u8, b: u8) -> Frame
     ensures { λ r. ⌜ r ≡ headed at a b ⌝ }

@@ -48,5 +48,5 @@ module _ (m : List ℕ) where
       → DataPart (nthFrame (messageFrames m) n) (payloadOf m) (behind (payloadStart m) at) part place
   part-of-part n h d =
       let s = same-data n in
-      let e = rw (h .content, h .position) at d in
-      record { content = rw (← s .0, ← s .1) (e .content); position = rw (← s .0) (e .position) }
+      let e = rw (h .holds, h .stands) at d in
+      record { holds = rw (← s .0, ← s .1) (e .holds); stands = rw (← s .0) (e .stands) }

@@ -82,7 +82,8 @@ impl<'a> Message<'a> {
             id::TRAFFIC => Self::Traffic(raw::read_traffic(message).result()?.try_into()?),
             id::BASIC => Self::Basic(raw::read_basic(message).result()?.try_into()?),
             id::LONG => Self::Long(raw::read_long(message).result()?.try_into()?),
-            _ => Self::Heartbeat(raw::read_heartbeat(message).result()?.try_into()?),
+            id::HEARTBEAT => Self::Heartbeat(raw::read_heartbeat(message).result()?.try_into()?),
+            other => panic!("the archive knows kind {other}, which this crate does not"),
         })
     }
 

@@ -4,7 +4,7 @@ use mathlib.Core.Path.{ap, _∙_}
 use borrow.Author.Tests.{le-leb, lt-leb}
 use Rattle.collecting.specs.declared.Phase.{Phase}
 use Rattle.collecting.specs.declared.Control.{Control}
-use Rattle.gdl90.specs.Face.{controlOf}
+use Rattle.gdl90.specs.Collecting.{controlOf}
 use borrow.Author.Needs.{needs}
 use Rattle.gdl90.proofs.control_of.Statement.{statement}
 use Rattle.gdl90.proofs.control_of.Tie as tie

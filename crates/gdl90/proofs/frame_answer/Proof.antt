@@ -1,7 +1,7 @@
 -- `gdl90::frame_answer` meets its contract, by the case.
 -- Assumes nothing.
 use mathlib.Core.Path.{sym, ap}
-use Rattle.gdl90.specs.Face.{frameAnswer}
+use Rattle.gdl90.specs.Collecting.{frameAnswer}
 use borrow.Author.Needs.{needs}
 use Rattle.gdl90.proofs.frame_answer.Statement.{statement}
 use Rattle.gdl90.proofs.frame_answer.Tie as tie

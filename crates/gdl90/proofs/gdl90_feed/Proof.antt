@@ -4,7 +4,7 @@ use mathlib.Core.Path.{ap, _∙_}
 use Rattle.collecting.specs.declared.Control.{Control}
 use Rattle.collecting.specs.Step.{held}
 use Rattle.collecting.specs.Stream.{Run, run}
-use Rattle.gdl90.specs.Face.{ranAnswer}
+use Rattle.gdl90.specs.Collecting.{ranAnswer}
 use borrow.Author.Needs.{needs}
 use Rattle.gdl90.proofs.gdl90_feed.Statement.{statement}
 use Rattle.gdl90.proofs.gdl90_feed.Tie as tie

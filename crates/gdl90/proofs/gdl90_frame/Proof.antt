@@ -1,7 +1,7 @@
 -- `gdl90::gdl90_frame` meets its contract: what `framing::frame` answers and leaves.
 -- Assumes nothing.
 use mathlib.Core.Path.{ap, _∙_}
-use Rattle.gdl90.specs.Face.{frameAnswer}
+use Rattle.gdl90.specs.Collecting.{frameAnswer}
 use borrow.Author.Needs.{needs}
 use Rattle.gdl90.proofs.gdl90_frame.Statement.{statement}
 use Rattle.gdl90.proofs.gdl90_frame.Tie as tie

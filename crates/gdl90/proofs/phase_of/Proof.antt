@@ -1,7 +1,7 @@
 -- `gdl90::phase_of` meets its contract, by the number.
 -- Assumes nothing.
 use borrow.Author.Tests.{eq-eqb, ne-eqb}
-use Rattle.gdl90.specs.Face.{phaseOf}
+use Rattle.gdl90.specs.Collecting.{phaseOf}
 use Rattle.gdl90.proofs.phase_of.Statement.{statement}
 use Rattle.gdl90.proofs.phase_of.Tie as tie
 

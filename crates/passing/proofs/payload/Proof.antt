@@ -25,7 +25,7 @@ part-result-end c = search needs
 returns : tie.Need-returns
 returns c =
     let r = c .before .before .before .read-uplink in
-    rw (← r .ensures, ne-eqb _ 0 (c .before .if1 .taken)) (record { content = refl; position = refl })
+    rw (← r .ensures, ne-eqb _ 0 (c .before .if1 .taken)) (record { holds = refl; stands = refl })
 
 sub-result-2 : tie.Need-sub-result-2
 sub-result-2 c =
@@ -43,7 +43,7 @@ returns-2 c =
     let r = c .before .before .before in
     let m = r .before .before .args .message .now in
     let size : length m - 4 ≡ 432 = omega (arith, sized _ (r .read-uplink .ensures) (c .before .if1 .left)) in
-    rw (← r .read-uplink .ensures, eq-eqb _ 0 (c .before .if1 .left)) (record { content = ap (λ (n : ℕ). take n (drop 4 m)) size; position = refl })
+    rw (← r .read-uplink .ensures, eq-eqb _ 0 (c .before .if1 .left)) (record { holds = ap (λ (n : ℕ). take n (drop 4 m)) size; stands = refl })
 
 pub payload-spec : {M : Type 1} → statement M
 payload-spec =

@@ -1,11 +1,14 @@
 -- `report::write_report` meets its contract, by the test.
 -- Assumes nothing.
-use mathlib.Core.Path.{sym, ap, _∙_}
+use mathlib.Core.Path.{ap, _∙_}
 use Rattle.codec.proofs.Outcomes.{wrote, refused}
 use Rattle.report.specs.Bytes.{packed, reportBytes}
 use borrow.Author.Needs.{needs}
 use Rattle.report.proofs.write_report.Statement.{statement}
 use Rattle.report.proofs.write_report.Tie as tie
+
+is-report-id-requires : tie.Need-is-report-id-requires
+is-report-id-requires c κs = search needs
 
 is-good-report-requires : tie.Need-is-good-report-requires
 is-good-report-requires c κs = search needs
@@ -31,16 +34,18 @@ returns c =
     let p = c .before .before .before .before .before in
     let k = p .before in
     let t = k .before in
-    let a = t .before .before .before .args in
-    wrote (sym (t .before .is-good-report .ensures) ∙ t .if1 .taken) (p .packed-report .ensures ∙ ap (packed (a .id) (a .report)) (k .codes-of .ensures)) (c .before .before .put .ensures)
+    let g = t .before in
+    let a = g .before .before .before .args in
+    wrote (simp (← g .before .is-report-id .ensures, ← g .is-good-report .ensures) (t .if1 .taken)) (p .packed-report .ensures ∙ ap (packed (a .id) (a .report)) (k .codes-of .ensures)) (c .before .before .put .ensures)
 
 returns-2 : tie.Need-returns-2
-returns-2 c = refused _ _ _ (sym (c .before .is-good-report .ensures) ∙ c .if1 .left)
+returns-2 c = refused _ _ _ (simp (← c .before .before .is-report-id .ensures, ← c .before .is-good-report .ensures) (c .if1 .left))
 
 pub write-report-spec : {M : Type 1} → statement M
 write-report-spec =
     tie.close
     (tie.spec
+    is-report-id-requires
     is-good-report-requires
     codes-of-requires
     packed-report-requires

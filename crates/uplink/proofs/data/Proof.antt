@@ -51,10 +51,10 @@ returns : tie.Need-returns
 returns c =
     let f = c .before .before .before .before in
     let e : (k n : ℕ) → k + n - k ≡ n = λ k n. omega arith in
-    rw (← f .before .before .nth .ensures, f .f .given .1) (record { content = rw e refl; position = refl })
+    rw (← f .before .before .nth .ensures, f .f .given .1) (record { holds = rw e refl; stands = refl })
 
 returns-2 : tie.Need-returns-2
-returns-2 c = rw (← c .before .before .before .nth .ensures, c .before .enum-told .given .1) (record { content = refl; position = refl })
+returns-2 c = rw (← c .before .before .before .nth .ensures, c .before .enum-told .given .1) (record { holds = refl; stands = refl })
 
 pub data-spec : {M : Type 1} → statement M
 data-spec =

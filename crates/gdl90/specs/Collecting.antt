@@ -1,0 +1,45 @@
+-- The answers of the library, as C has them.
+-- Assumes nothing.
+use Prim.Native.Nat.{ℕ}
+use mathlib.Core.Bool.{cond}
+use lib.Dec.{eqb, leb}
+use Rattle.framing.specs.declared.Framed.{Framed}
+use Rattle.framing.specs.Framing.{framedNumber, framedSize}
+use Rattle.collecting.specs.declared.Phase.{Phase}
+use Rattle.collecting.specs.declared.Phase.the-variants.{LeadIn, Open, Escape, BadEscape, TooLong}
+use Rattle.collecting.specs.declared.Control.{Control}
+use Rattle.collecting.specs.declared.Answer.{Answer}
+use Rattle.collecting.specs.Stream.{isAnswered, answerNumber, messageLength, Run}
+use Rattle.gdl90.specs.declared.FrameAnswer.{FrameAnswer}
+use Rattle.gdl90.specs.declared.FeedControl.{FeedControl}
+use Rattle.gdl90.specs.declared.FeedAnswer.{FeedAnswer}
+
+-- 01's number, and the bytes written, 0 with a refusal
+abbrev pub frameAnswer : Framed → FrameAnswer
+frameAnswer f = record { number = framedNumber f; length = framedSize f }
+
+abbrev pub phaseNumber : Phase → ℕ
+phaseNumber LeadIn = 0
+phaseNumber Open = 1
+phaseNumber Escape = 2
+phaseNumber BadEscape = 3
+phaseNumber TooLong = 4
+
+unfoldable pub phaseOf : ℕ → Phase
+phaseOf n = cond (eqb n 0) LeadIn (cond (eqb n 1) Open (cond (eqb n 2) Escape (cond (eqb n 3) BadEscape TooLong)))
+
+-- a phase over 4 is none: its state is taken as the fresh one, as one with a count over 438 is
+unfoldable pub controlOf : FeedControl → Control
+controlOf c = cond (leb (c .phase) 4) (record { count = c .count; phase = phaseOf (c .phase) }) (record { count = 439; phase = LeadIn })
+
+abbrev pub feedAnswer : Control → ℕ → Answer → FeedAnswer
+feedAnswer c n a = record {
+  control = record { count = c .count; phase = phaseNumber (c .phase) };
+  taken = n;
+  answered = isAnswered a;
+  number = answerNumber a;
+  length = messageLength a;
+}
+
+abbrev pub ranAnswer : Run → FeedAnswer
+ranAnswer r = feedAnswer (r .last .state .control) (r .count) (r .last .answer)
