@@ -1,4 +1,4 @@
-// A report as a struct of numbers, for callers that know no enums, such as C's, there and back.
+// A report as a struct of numbers, for callers that know no enums, such as C's, and the typed report that it stands for.
 ghost use mathlib.Core.Path.{_≡_};
 ghost use Rattle.c_report.specs.Flat.{positionFrom, altitudeFrom, trackNumber, trackFrom, speedFrom, climbFrom, reportFrom};
 use message_types::Altitude;
