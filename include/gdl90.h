@@ -50,8 +50,8 @@ struct gdl90_frame_answer gdl90_frame(const uint8_t *message, size_t message_len
 /* ---- collecting frames from a stream. Control and room are the state: keep both, unchanged, from one call to the next. */
 
 /* All zero: the fresh state; the room is then zero too. A control with another phase or count than those below is taken as the fresh
-   state. Fed no byte at all, one with a phase over 4 comes back with count 439
-   and phase 0, and any other with a count over 438 as it came: both are taken as the fresh state again. */
+   state. Fed no byte at all, one with a phase over 4 comes back with count 439 and phase 0, and any other with a count over 438 as it
+   came: both are taken as the fresh state again. */
 struct gdl90_feed_control {
     size_t count;  /* bytes in the room, 0 to 438 */
     uint8_t phase; /* 0 to 4 */
