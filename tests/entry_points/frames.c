@@ -17,7 +17,10 @@ static void sequence_is(const uint8_t *message, size_t length, uint16_t want)
 static void check_sequences(void)
 {
     static const uint8_t x16[] = {0x01, 0x00, 0x00}, x23[] = {0x80, 0x00, 0x00};
-    uint8_t two[2] = {0}, far[1000] = {0};
+    /* the 16 words of 02 (vi), which are the first 16 of 001's table */
+    static const uint16_t words[16] = {0x0000, 0x1021, 0x2042, 0x3063, 0x4084, 0x50A5, 0x60C6, 0x70E7,
+                                       0x8108, 0x9129, 0xA14A, 0xB16B, 0xC18C, 0xD1AD, 0xE1CE, 0xF1EF};
+    uint8_t two[2] = {0}, three[3] = {0}, far[1000] = {0};
     unsigned b;
 
     CASE(sequence_is(two, 0, 0));
@@ -26,6 +29,10 @@ static void check_sequences(void)
         two[1] = (uint8_t)(0xC3 ^ b);
         CASE(sequence_is(two, 1, (uint16_t)b));
         CASE(sequence_is(two, 2, (uint16_t)(256 * b + (0xC3 ^ b))));
+    }
+    for (b = 0; b < 16; b++) {
+        three[0] = (uint8_t)b;
+        CASE(sequence_is(three, sizeof three, words[b])); /* word i is the sequence of the message i, 00, 00 */
     }
     CASE(sequence_is(HEARTBEAT, sizeof HEARTBEAT, 0x8BB3)); /* 01's value 1 */
     CASE(sequence_is(x16, sizeof x16, 0x1021));             /* and 2 */

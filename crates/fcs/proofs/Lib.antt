@@ -3,4 +3,6 @@ pub mod Linearity
 pub mod Bursting
 pub mod Shortest
 pub mod Quotient
-pub mod Bytewise
+pub mod Sums
+pub mod Words
+pub mod Pairwise

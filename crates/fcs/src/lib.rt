@@ -1,26 +1,68 @@
-// The frame check sequence (001 §2.2.3).
+// The frame check sequence (001 §2.2.3), from the 16 words of 02 (vi).
 ghost use mathlib.Core.Path.{_≡_};
+ghost use Prim.Native.Nat.{_%_};
+ghost use lib.ListN.{length, take};
 ghost use Rattle.fcs.specs.Fcs.{byteStep, fcs};
+ghost use Rattle.fcs.specs.Words.{wordOf};
 
-// The check sequence of a message: from zero, over the message's bits and no more.
+// The check sequence of a message: from zero, over the message's bits and no more. Two bytes a turn; the first
+// of an odd number stands by itself.
 pub fn check_sequence(message: &[u8]) -> u16
     ensures { λ r. ⌜ r ≡ fcs (now (message .entry)) ⌝ }
 {
-    let mut r: u16 = 0;
-    let mut i = 0;
+    let mut r = odd_byte(message);
+    let mut i = message.len() % 2;
     while i < message.len() {
-        r = with_byte(r, message[i]);
-        i += 1;
+        r = with_pair(r, message[i], message[i + 1]);
+        i += 2;
     }
     r
 }
 
-// One byte more of the division. The eight bits that leave above come back below all at once, since
-// x^16 is x^12+x^5+1 modulo the generator; the upper half of the x^12 part leaves once more.
-fn with_byte(r: u16, b: u8) -> u16
-    ensures { λ s. ⌜ s ≡ byteStep r b ⌝ }
+// The first byte of an odd number: one byte is its own sequence.
+fn odd_byte(message: &[u8]) -> u16
+    ensures { λ r. ⌜ r ≡ fcs (take (length (now (message .entry)) % 2) (now (message .entry))) ⌝ }
 {
-    let high = r / 256;
-    let t = high ^ (high / 16);
-    t ^ (t * 32) ^ (t % 16 * 4096) ^ (r % 256 * 256) ^ (b as u16)
+    if message.len() % 2 == 0 {
+        return 0;
+    }
+    message[0] as u16
+}
+
+// Two bytes more of the division: four half bytes leave above, and each comes back below as its word. Those of
+// r, t and q say which words, each as early as it is known, so that no word waits for another.
+fn with_pair(r: u16, a: u8, b: u8) -> u16
+    ensures { λ s. ⌜ s ≡ byteStep (byteStep r a) b ⌝ }
+{
+    let t = r ^ (r / 16);
+    let q = t ^ (t / 256) ^ (r / 2048);
+    let first = word(r / 4096) % 16 * 4096;
+    let second = word(t / 256) % 256 * 256;
+    let third = word(q / 16) % 4096 * 16;
+    first ^ second ^ third ^ word(q) ^ (256 * (a as u16) + (b as u16))
+}
+
+// The word of the lowest half byte: word i is the sequence of the message i, 00, 00. The table is a match, since a
+// constant array is built on the stack wherever it is named.
+fn word(i: u16) -> u16
+    ensures { λ r. ⌜ r ≡ wordOf (i % 16) ⌝ }
+{
+    match i % 16 {
+        0 => 0x0000,
+        1 => 0x1021,
+        2 => 0x2042,
+        3 => 0x3063,
+        4 => 0x4084,
+        5 => 0x50A5,
+        6 => 0x60C6,
+        7 => 0x70E7,
+        8 => 0x8108,
+        9 => 0x9129,
+        10 => 0xA14A,
+        11 => 0xB16B,
+        12 => 0xC18C,
+        13 => 0xD1AD,
+        14 => 0xE1CE,
+        _ => 0xF1EF,
+    }
 }

@@ -69,6 +69,14 @@ mod tests {
         assert_eq!(check_sequence(&[0x01, 0x00, 0x00]), 0x1021);
     }
 
+    /// The first 16 are the words of 02 (vi).
+    #[test]
+    fn word_i_is_the_sequence_of_i_and_two_zero_bytes() {
+        for i in 0..=255 {
+            assert_eq!(TABLE[usize::from(i)], long_division(&[i, 0, 0]));
+        }
+    }
+
     #[test]
     fn table_agrees_with_long_division() {
         let mut random = Xorshift::new(1);
