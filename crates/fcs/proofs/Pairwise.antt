@@ -7,24 +7,24 @@ use native.Mathlib.Omega.{arith}
 use native.Mathlib.Numerals.{add-one}
 use lib.ListN.{length, getD, take, drop, drop-of-length-le}
 use lib.Seq.{drop-cons}
-use Rattle.fcs.specs.Fcs.{step, bits, byteStep, fcs}
+use Rattle.fcs.specs.Fcs.{step, bits, fcs}
 use Rattle.fcs.proofs.Shortest.{short}
 
 -- dividing the front and then the rest divides the whole
-on : (k : ℕ) (s : List ℕ) (r : ℕ) → foldl step (foldl step r (bits (take k s))) (bits (drop k s)) ≡ foldl step r (bits s)
+front-then-rest : (k : ℕ) (s : List ℕ) (r : ℕ) → foldl step (foldl step r (bits (take k s))) (bits (drop k s)) ≡ foldl step r (bits s)
 unfolding bits
-on zero s r = refl
-on (suc k) [] r = refl
-on (suc k) (b ∷ bs) r = on k bs (foldl step r (bits (b ∷ [])))
+front-then-rest zero s r = refl
+front-then-rest (suc k) [] r = refl
+front-then-rest (suc k) (b ∷ bs) r = front-then-rest k bs (foldl step r (bits (b ∷ [])))
 
 pub front : (k : ℕ) (s : List ℕ) → foldl step (fcs (take k s)) (bits (drop k s)) ≡ fcs s
 unfolding fcs
-front k s = on k s 0
+front k s = front-then-rest k s 0
 
 -- two bytes more taken, as many fewer left
-pub turn : (s : List ℕ) (i r q : ℕ) → i + 1 < length s → q ≡ byteStep (byteStep r (getD s i 0)) (getD s (i + 1) 0)
+pub turn : (s : List ℕ) (i r q : ℕ) → i + 1 < length s → q ≡ foldl step r (bits (getD s i 0 ∷ getD s (i + 1) 0 ∷ []))
     → foldl step q (bits (drop (i + 2) s)) ≡ foldl step r (bits (drop i s))
-unfolding bits byteStep
+unfolding bits
 turn s i r q l e =
     let next : i + 2 ≡ suc (i + 1) = omega arith in
     ap₂ (λ (n j : ℕ). foldl step n (bits (drop j s))) e next

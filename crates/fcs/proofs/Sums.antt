@@ -2,7 +2,7 @@
 -- Assumes nothing.
 use mathlib.Core.Path.{_≡_, refl, sym, ap, ap₂, _∙_, subst}
 use mathlib.Core.Bool.{true}
-use Prim.Native.Nat.{ℕ, zero, suc, _+_, _*_, _/_, _%_, _^_, _<_}
+use Prim.Native.Nat.{ℕ, zero, suc, _*_, _/_, _%_, _^_, _<_}
 use native.Mathlib.Omega.{arith}
 use native.Mathlib.Nat.{add-zero, zero-mul, one-mul, mod-lt}
 use native.Mathlib.Numerals.{one-add}
@@ -36,6 +36,10 @@ whole : (r n : ℕ) → r / 2 ^ n * 2 ^ n ⊕ r % 2 ^ n ≡ r
 unfolding _⊕_
 whole r n = xor-shifted (r / 2 ^ n) n (r % 2 ^ n) (mod-lt r (pow-pos n)) ∙ split r n
 
+at-zero : {f : ℕ → ℕ} → Additive f → f 0 ≡ 0
+unfolding _⊕_
+at-zero {f} l = l .adds 0 0 ∙ ⊕-self (f 0)
+
 module _ {f g : ℕ → ℕ} (l : Additive f) (k : Additive g) where
   pub plus : Additive (λ r. f r ⊕ g r)
   plus = record { adds = λ x y. ap₂ (λ (m n : ℕ). m ⊕ n) (l .adds x y) (k .adds x y) ∙ simp ⊕-laws }
@@ -43,25 +47,18 @@ module _ {f g : ℕ → ℕ} (l : Additive f) (k : Additive g) where
   pub after : Additive (λ r. f (g r))
   after = record { adds = λ x y. ap f (k .adds x y) ∙ l .adds (g x) (g y) }
 
-  none : f 0 ≡ g 0
-  unfolding _⊕_
-  none =
-      let p : f 0 ≡ 0 = l .adds 0 0 ∙ ⊕-self (f 0) in
-      let q : g 0 ≡ 0 = k .adds 0 0 ∙ ⊕-self (g 0) in
-      p ∙ sym q
-
   -- by the highest term
   below : (n : ℕ) → ((i : ℕ) → i < n → f (2 ^ i) ≡ g (2 ^ i)) → (r : ℕ) → r < 2 ^ n → f r ≡ g r
-  below zero h r s = let e : r ≡ 0 = omega arith in ap f e ∙ none ∙ ap g (sym e)
+  below zero h r s = let e : r ≡ 0 = omega arith in ap f e ∙ at-zero l ∙ sym (at-zero k) ∙ ap g (sym e)
   below (suc n) h r s =
-      let low = r % 2 ^ n in
-      let rest : f low ≡ g low = below n (λ i j. h i (omega arith)) low (mod-lt r (pow-pos n)) in
-      bit-ind (λ (t : ℕ). t * 2 ^ n ⊕ low ≡ r → f r ≡ g r)
-      (λ e. let e0 : low ≡ r = sym (zero-⊕ low) ∙ ap (λ (m : ℕ). m ⊕ low) (sym (zero-mul (2 ^ n))) ∙ e in ap f (sym e0) ∙ rest ∙ ap g e0)
-      (λ e. let e1 : 2 ^ n ⊕ low ≡ r = ap (λ (m : ℕ). m ⊕ low) (sym (one-mul (2 ^ n))) ∙ e in
-      ap f (sym e1) ∙ l .adds (2 ^ n) low ∙ ap₂ (λ (x y : ℕ). x ⊕ y) (h n (omega arith)) rest ∙ sym (k .adds (2 ^ n) low) ∙ ap g e1)
+      let part = r % 2 ^ n in
+      let rest : f part ≡ g part = below n (λ i j. h i (omega arith)) part (mod-lt r (pow-pos n)) in
+      bit-ind (λ (t : ℕ). t * 2 ^ n ⊕ part ≡ r → f r ≡ g r)
+      (λ e. let e0 : part ≡ r = sym (zero-⊕ part) ∙ ap (λ (m : ℕ). m ⊕ part) (sym (zero-mul (2 ^ n))) ∙ e in ap f (sym e0) ∙ rest ∙ ap g e0)
+      (λ e. let e1 : 2 ^ n ⊕ part ≡ r = ap (λ (m : ℕ). m ⊕ part) (sym (one-mul (2 ^ n))) ∙ e in
+      ap f (sym e1) ∙ l .adds (2 ^ n) part ∙ ap₂ (λ (x y : ℕ). x ⊕ y) (h n (omega arith)) rest ∙ sym (k .adds (2 ^ n) part) ∙ ap g e1)
       (r / 2 ^ n) (shr-lt 1 n (subst (λ (m : ℕ). r < 2 ^ m) (sym (one-add n)) s)) (whole r n)
 
   -- from a test that antt computes at each power below the n-th
   pub agree : (n : ℕ) → every (λ i. eqb (f (2 ^ i)) (g (2 ^ i))) n ≡ true → (r : ℕ) → r < 2 ^ n → f r ≡ g r
-  agree n t = below n (λ i l. eqb-true _ _ (at (λ i. eqb (f (2 ^ i)) (g (2 ^ i))) n t i l))
+  agree n t = below n (λ i h. eqb-true _ _ (at (λ i. eqb (f (2 ^ i)) (g (2 ^ i))) n t i h))

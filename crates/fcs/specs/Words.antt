@@ -9,6 +9,10 @@ use Rattle.fcs.specs.Fcs.{fcs}
 abbrev pub wordOf : ℕ → ℕ
 wordOf i = fcs (i ∷ 0 ∷ 0 ∷ [])
 
--- half a byte more of the division: the half byte that leaves above comes back below as its word
+-- half a byte more of the division: the highest of the four half bytes leaves above and comes back below as its word
 unfoldable pub halfStep : ℕ → ℕ → ℕ
 halfStep r h = r % 4096 * 16 ⊕ wordOf (r / 4096 % 16) ⊕ h
+
+-- a byte more of the division: its two half bytes, the higher first
+unfoldable pub byHalves : ℕ → ℕ → ℕ
+byHalves r b = halfStep (halfStep r (b / 16)) (b % 16)

@@ -2,15 +2,15 @@
 ghost use mathlib.Core.Path.{_≡_};
 ghost use Prim.Native.Nat.{_%_};
 ghost use lib.ListN.{length, take};
-ghost use Rattle.fcs.specs.Fcs.{byteStep, fcs};
-ghost use Rattle.fcs.specs.Words.{wordOf};
+ghost use Rattle.fcs.specs.Fcs.{fcs};
+ghost use Rattle.fcs.specs.Words.{wordOf, byHalves};
 
 // The check sequence of a message: from zero, over the message's bits and no more. Two bytes a turn; the first
-// of an odd number stands by itself.
+// of an odd number of bytes stands by itself.
 pub fn check_sequence(message: &[u8]) -> u16
     ensures { λ r. ⌜ r ≡ fcs (now (message .entry)) ⌝ }
 {
-    let mut r = odd_byte(message);
+    let mut r = unpaired_byte(message);
     let mut i = message.len() % 2;
     while i < message.len() {
         r = with_pair(r, message[i], message[i + 1]);
@@ -19,8 +19,8 @@ pub fn check_sequence(message: &[u8]) -> u16
     r
 }
 
-// The first byte of an odd number: one byte is its own sequence.
-fn odd_byte(message: &[u8]) -> u16
+// The first of an odd number of bytes: one byte is its own sequence.
+fn unpaired_byte(message: &[u8]) -> u16
     ensures { λ r. ⌜ r ≡ fcs (take (length (now (message .entry)) % 2) (now (message .entry))) ⌝ }
 {
     if message.len() % 2 == 0 {
@@ -29,10 +29,11 @@ fn odd_byte(message: &[u8]) -> u16
     message[0] as u16
 }
 
-// Two bytes more of the division: four half bytes leave above, and each comes back below as its word. Those of
-// r, t and q say which words, each as early as it is known, so that no word waits for another.
+// Two bytes more of the division: four half bytes leave above, and each comes back below as its word. They are the
+// quotient's: r has the first, t the second, q the other two, so that no word waits for another. The upper part of a
+// word leaves again; t and q have it counted in, so `% 16` and its like drop it.
 fn with_pair(r: u16, a: u8, b: u8) -> u16
-    ensures { λ s. ⌜ s ≡ byteStep (byteStep r a) b ⌝ }
+    ensures { λ s. ⌜ s ≡ byHalves (byHalves r a) b ⌝ }
 {
     let t = r ^ (r / 16);
     let q = t ^ (t / 256) ^ (r / 2048);

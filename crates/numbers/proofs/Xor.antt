@@ -3,8 +3,7 @@
 use mathlib.Core.Path.{_≡_, refl, sym, ap, ap₂, _∙_}
 use Prim.Native.Nat.{ℕ, zero, suc, _+_, _*_, _/_, _%_, _^_, _<_}
 use native.Mathlib.Omega.{arith}
-use native.Mathlib.Nat.{add-zero}
-use lib.Bits.{bitXor, differ, xor-step, xor-block, xor-shr, xor-mod, xor-comm, xor-self, xor-zero-r}
+use lib.Bits.{bitXor, differ, xor-step, xor-shr, xor-mod, xor-comm, xor-self, xor-zero-r}
 use lib.Arith.{bin-ind, digits-mod}
 use Rattle.numbers.specs.Bits.{_⊕_, bit}
 
@@ -62,10 +61,6 @@ pub ⊕-cancel : (a b : ℕ) → a ⊕ (a ⊕ b) ≡ b
 ⊕-cancel a b = sym (⊕-assoc a a b) ∙ ap (λ (n : ℕ). n ⊕ b) (⊕-self a) ∙ zero-⊕ b
 
 pub ruleset ⊕-laws = (⊕-assoc, ⊕-comm, ⊕-left)
-
-pub ⊕-double : (a b : ℕ) → (a ⊕ b) * 2 ≡ a * 2 ⊕ b * 2
-unfolding _⊕_
-⊕-double a b = sym (add-zero _) ∙ sym (xor-block 1 a b 0 0 (omega arith) (omega arith)) ∙ ap₂ bitXor (add-zero (a * 2)) (add-zero (b * 2))
 
 pub ⊕-bit : (k a b : ℕ) → bit k (a ⊕ b) ≡ bit k a ⊕ bit k b
 unfolding _⊕_ bit
