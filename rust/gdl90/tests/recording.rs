@@ -114,11 +114,12 @@ fn a_closed_output_ends_it_quietly() {
     drop(child.stdout.take());
     let bytes = std::fs::read(sample()).expect("the sample");
     let mut input = child.stdin.take().expect("a pipe");
-    input.write_all(&bytes).expect("room in the pipe");
-    // More would be taken: only the closed output can end it here.
-    let output = child.wait_with_output().expect("it ends");
-    drop(input);
-    printed(output);
+    // More would be taken: only the closed output can end it here. Again and
+    // again, since a child that another test is just starting holds a copy of
+    // the output for a moment, and what is written meanwhile is no fault.
+    let ended = (0..100_000).any(|_| input.write_all(&bytes).is_err());
+    assert!(ended, "it goes on with its output closed");
+    printed(child.wait_with_output().expect("it ends"));
 }
 
 #[test]
