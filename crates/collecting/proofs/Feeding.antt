@@ -1,62 +1,88 @@
 -- The turns of `feed`.
 -- Assumes nothing.
-use mathlib.Core.Path.{_≡_, refl, sym, ap, ap₂, _∙_}
+use mathlib.Core.Path.{_≡_, refl, sym, ap, ap₂, _∙_, subst}
 use mathlib.Core.Bool.{Bool, true, false, cond}
-use Prim.Native.Nat.{ℕ, _+_, _≤_, _<_}
-use mathlib.Core.List.{List, _∷_}
+use Prim.Native.Nat.{ℕ, suc, _+_, _-_, _≤_, _<_}
+use mathlib.Core.List.{List, [], _∷_, _++_}
 use native.Mathlib.Omega.{arith}
-use native.Mathlib.Numerals.{add-one}
-use lib.ListN.{length, drop, getD, drop-of-length-le}
-use lib.Seq.{drop-cons}
+use lib.ListN.{length, take, drop, getD, drop-of-length-le, take-append-drop, length-drop}
+use lib.Seq.{drop-cons, drop-drop, length-take-le}
+use borrow.Author.Tests.{ne-eqb}
+use Rattle.framing.specs.Stuffing.{flag, Flagless}
 use Rattle.collecting.specs.declared.Answer.{Answer}
 use Rattle.collecting.specs.declared.Answer.the-variants.{None, Accepted, Refused}
 use Rattle.collecting.specs.declared.Collector.{Collector}
 use Rattle.collecting.specs.declared.Collected.{Collected}
 use Rattle.collecting.specs.Step.{next, answerTo, shown, stepped}
-use Rattle.collecting.specs.Stream.{isAnswered, Run, ran, run}
-
--- a run, behind i bytes that were answered nothing
-abbrev pub behind : ℕ → Run → Run
-behind i r = ran (r .count + i) (r .last)
+use Rattle.collecting.specs.Stream.{after, isAnswered, Run, ran, run, unflagged}
+use Rattle.collecting.specs.Stretch.{behind, Leads}
+use Rattle.collecting.proofs.Filling.{unflagged-most, unflagged-flagless, rest}
 
 counted : {i j : ℕ} {s : Collected} → i ≡ j → ran i s ≡ ran j s
 counted {s = s} e = ap {B = Run} (λ (n : ℕ). ran n s) e
 
-pub none-behind : (r : Run) → behind 0 r ≡ r
-none-behind r = counted (omega arith)
+-- nothing was answered yet
+abbrev pub unanswered : ℕ → Collector → List ℕ → Run
+unanswered k c m = ran k (record { state = c; answer = None; message = m })
 
-pub none : (a : Answer) → isAnswered a ≡ false → a ≡ None
-none None e = refl
-none (Accepted k) e = let z : true ≡ false = e in cc
-none (Refused n) e = let z : true ≡ false = e in cc
+-- bytes without a flag are answered nothing
+flagless-run : (xs ys : List ℕ) (c : Collector) (m : List ℕ) → Flagless xs → behind (length xs) (run (after c xs) m ys) ≡ run c m (xs ++ ys)
+unfolding run after answerTo Flagless
+flagless-run [] ys c m f = counted (omega arith)
+flagless-run (x ∷ xs) ys c m f = counted (omega arith) ∙ ap {B = Run} (λ (r : Run). ran (r .count + 1) (r .last)) (flagless-run xs ys (next c x) m (f .1)) ∙ simp (ne-eqb x flag (f .0))
 
-module _ (c : Collector) (m bs : List ℕ) (i : ℕ) where
-  pub ended : length bs ≤ i → ran i (record { state = c; answer = None; message = m }) ≡ behind i (run c m (drop i bs))
+pub leads-none : {c : Collector} {m bs : List ℕ} → Leads c m bs (unanswered 0 c m)
+leads-none = record { most = omega arith; whole = counted (omega arith) }
+
+-- the bytes before the first flag
+pub leads-filled : {c d : Collector} (m : List ℕ) {bs : List ℕ} {k : ℕ} → k ≡ unflagged bs → d ≡ after c (take k bs) → Leads c m bs (unanswered k d m)
+leads-filled {c} {d} m {bs} {k} e f =
+    let within : k ≤ length bs = omega (arith, e, unflagged-most bs) in
+    let before : Flagless (take k bs) = subst (λ (n : ℕ). Flagless (take n bs)) (sym e) (unflagged-flagless bs) in
+    record {
+      most = within;
+      whole = ap₂ {C = Run} (λ (n : ℕ) (d : Collector). behind n (run d m (drop k bs))) (sym (length-take-le k bs within)) f
+          ∙ flagless-run (take k bs) (drop k bs) c m before ∙ ap (run c m) (take-append-drop k bs);
+    }
+
+leads-byte : (c : Collector) (m : List ℕ) (b : ℕ) (bs : List ℕ) → Leads c m (b ∷ bs) (ran 1 (stepped c m b))
+unfolding run stepped shown
+leads-byte c m b bs = record { most = omega arith; whole = go (answerTo c b) }
+  where
+    s : Answer → Collected
+    s a = record { state = next c b; answer = a; message = shown a (c .room) m }
+
+    go : (a : Answer) → cond (isAnswered a) (ran 1 (s a)) (behind 1 (run (next c b) (shown a (c .room) m) bs))
+        ≡ cond (isAnswered a) (ran 1 (s a)) (ran (run (next c b) m bs .count + 1) (run (next c b) m bs .last))
+    go None = counted (omega arith)
+    go (Accepted k) = refl
+    go (Refused n) = refl
+
+module _ {c d : Collector} {m m′ bs : List ℕ} {i : ℕ} where
+  leads-more : {r : Run} → Leads c m bs (unanswered i d m′) → Leads d m′ (drop i bs) r → Leads c m bs (behind i r)
+  leads-more {r} p q = record { most = omega (arith, p .most, q .most, length-drop i bs); whole = go (isAnswered (r .last .answer)) ∙ ap (behind i) (q .whole) ∙ p .whole }
+    where
+      go : (t : Bool) → cond t (behind i r) (behind (i + r .count) (run (r .last .state) (r .last .message) (drop (i + r .count) bs)))
+          ≡ behind i (cond t r (behind (r .count) (run (r .last .state) (r .last .message) (drop (r .count) (drop i bs)))))
+      go true = refl
+      go false = ap {B = Run} (λ (t : List ℕ). behind (i + r .count) (run (r .last .state) (r .last .message) t)) (sym (drop-drop (r .count) i bs)) ∙ counted (omega arith)
+
+  pub leads-one : {s : Collected} → Leads c m bs (unanswered i d m′) → i < length bs → s ≡ stepped d m′ (getD bs i 0) → Leads c m bs (ran (i + 1) s)
+  leads-one {s} p h e =
+      leads-more p
+      (subst (λ (t : List ℕ). Leads d m′ t (ran 1 s)) (sym (drop-cons bs i 0 h))
+      (subst (λ (s : Collected). Leads d m′ (getD bs i 0 ∷ drop (suc i) bs) (ran 1 s)) (sym e) (leads-byte d m′ (getD bs i 0) (drop (suc i) bs))))
+
+  pub leads-part : {r : Run} → Leads c m bs (unanswered i d m′) → Leads d m′ (take (length bs - i) (drop i bs)) r → Leads c m bs (behind i r)
+  leads-part {r} p q = leads-more p (subst (λ (t : List ℕ). Leads d m′ t r) (rest bs i) q)
+
+  pub leads-end : Leads c m bs (unanswered i d m′) → length bs ≤ i → unanswered i d m′ ≡ run c m bs
   unfolding run
-  ended h = counted (omega arith) ∙ ap {B = Run} (λ (t : List ℕ). behind i (run c m t)) (sym (drop-of-length-le bs h))
+  leads-end p h = counted (omega arith) ∙ ap {B = Run} (λ (t : List ℕ). behind i (run d m′ t)) (sym (drop-of-length-le bs h)) ∙ p .whole
 
-  module _ (h : i < length bs) (s : Collected) (e : s ≡ stepped c m (getD bs i 0)) where
-    b : ℕ
-    b = getD bs i 0
+module _ {c : Collector} {m bs : List ℕ} {r : Run} (p : Leads c m bs r) where
+  pub leads-answered : isAnswered (r .last .answer) ≡ true → r ≡ run c m bs
+  leads-answered e = rw e at (p .whole)
 
-    answer : s .answer ≡ answerTo c b
-    unfolding stepped b
-    answer = ap (λ (s : Collected). s .answer) e
-
-    one-more : run c m (drop i bs) ≡ cond (isAnswered (s .answer)) (ran 1 s) (ran (run (next c b) m (drop (i + 1) bs) .count + 1) (run (next c b) m (drop (i + 1) bs) .last))
-    unfolding run b
-    one-more =
-        ap (run c m) (drop-cons bs i 0 h ∙ ap (λ (n : ℕ). b ∷ drop n bs) (sym (add-one i)))
-        ∙ ap₂ {C = Run} (λ (t : Bool) (s : Collected). cond t (ran 1 s) (ran (run (next c b) m (drop (i + 1) bs) .count + 1) (run (next c b) m (drop (i + 1) bs) .last)))
-        (ap isAnswered (sym answer)) (sym e)
-
-    pub spoken : isAnswered (s .answer) ≡ true → ran (i + 1) s ≡ behind i (run c m (drop i bs))
-    spoken q = counted (omega arith) ∙ ap (behind i) (sym (rw q at one-more))
-
-    pub silent : isAnswered (s .answer) ≡ false → behind (i + 1) (run (s .state) (s .message) (drop (i + 1) bs)) ≡ behind i (run c m (drop i bs))
-    unfolding stepped shown b
-    silent q =
-        let state : s .state ≡ next c b = ap (λ (s : Collected). s .state) e in
-        let message : s .message ≡ m = ap (λ (s : Collected). s .message) e ∙ ap (λ (a : Answer). shown a (c .room) m) (sym answer ∙ none (s .answer) q) in
-        ap₂ {C = Run} (λ (d : Collector) (m : List ℕ). behind (i + 1) (run d m (drop (i + 1) bs))) state message
-        ∙ counted (omega arith) ∙ ap (behind i) (sym (rw q at one-more))
+  pub leads-on : isAnswered (r .last .answer) ≡ false → Leads c m bs (unanswered (r .count) (r .last .state) (r .last .message))
+  leads-on e = record { most = p .most; whole = rw e at (p .whole) }

@@ -1,14 +1,14 @@
--- The turns of `fill`.
+-- Bytes without a flag, one at a time and many at once.
 -- Assumes nothing.
-use mathlib.Core.Path.{_≡_, refl}
+use mathlib.Core.Path.{_≡_, refl, sym, ap, _∙_, subst}
 use mathlib.Core.Bool.{Bool, true, false, cond, _||_}
-use Prim.Native.Nat.{ℕ, suc, _+_, _≤_, _<_}
-use mathlib.Core.List.{List, [], _∷_, foldl-append}
+use Prim.Native.Nat.{ℕ, zero, suc, _+_, _-_, _≤_, _<_}
+use mathlib.Core.List.{List, [], _∷_, _++_, foldl-append}
 use native.Mathlib.Omega.{arith}
 use native.Mathlib.Numerals.{add-one}
 use lib.Dec.{eqb, ltb}
-use lib.ListN.{length, take, drop, getD, set, drop-of-length-le}
-use lib.Seq.{take-suc, drop-cons}
+use lib.ListN.{length, take, drop, getD, set, drop-of-length-le, length-drop}
+use lib.Seq.{take-add, take-all, drop-cons}
 use borrow.Author.Tests.{eq-eqb, ne-eqb, eqb-false, ltb-true}
 use Rattle.numbers.specs.Bits.{_⊕_}
 use Rattle.framing.specs.Stuffing.{flag, controlEscape, Flagless}
@@ -17,7 +17,9 @@ use Rattle.collecting.specs.declared.Phase.the-variants.{LeadIn, Open, E
 use Rattle.collecting.specs.declared.Collector.{Collector}
 use Rattle.collecting.specs.Step.{held, cleared, turned, collected, unescaped, inside, taken, next}
 use Rattle.collecting.specs.Stream.{after, unflagged}
-use Rattle.collecting.proofs.Cases.{taken-within}
+use Rattle.collecting.specs.Stretch.{opened, Passed}
+use Rattle.collecting.proofs.Cases.{taken-within, inside-next, collected-room, open-other}
+use Rattle.collecting.proofs.Holding.{stuck}
 use Rattle.collecting.proofs.Ranging.{taken-most}
 
 module _ (bs : List ℕ) (i : ℕ) where
@@ -33,41 +35,6 @@ module _ (bs : List ℕ) (i : ℕ) where
     pub unflagged-more : (getD bs i 0 ≡ flag → ⊥) → unflagged (drop i bs) ≡ suc (unflagged (drop (i + 1) bs))
     unfolding unflagged
     unflagged-more n = rw (add-one, drop-cons bs i 0 h, ne-eqb (getD bs i 0) flag n)
-
-    pub after-more : (c : Collector) → after c (take (i + 1) bs) ≡ next (after c (take i bs)) (getD bs i 0)
-    unfolding after
-    after-more c = rw (add-one, take-suc bs i 0 h) (foldl-append next c (take i bs) (getD bs i 0 ∷ []))
-
-pub inside-next : (c : Collector) (b : ℕ) → c .control .count ≤ 438 → (b ≡ flag → ⊥) → inside (c .control .phase) c b ≡ next c b
-unfolding next
-inside-next c b h n = simp (ne-eqb b flag n, taken-within c h)
-
-chosen-most : (t : Bool) (c d : Collector) → c .control .count ≤ 438 → d .control .count ≤ 438 → cond t c d .control .count ≤ 438
-chosen-most true c d h g = h
-chosen-most false c d h g = g
-
-collected-most : (n : ℕ) (room : List ℕ) (b : ℕ) → collected n room b .control .count ≤ 438
-unfolding collected
-collected-most n room b = go (ltb n 438) refl
-  where
-    go : (t : Bool) → ltb n 438 ≡ t → cond t (held (record { count = n + 1; phase = Open }) (set room n b)) (cleared TooLong) .control .count ≤ 438
-    go true e = omega (arith, ltb-true n 438 e)
-    go false e = omega arith
-
--- no byte leads over 438
-pub inside-most : (p : Phase) (c : Collector) (b : ℕ) → c .control .count ≤ 438 → inside p c b .control .count ≤ 438
-unfolding inside unescaped
-inside-most LeadIn c b h = h
-inside-most Open c b h = chosen-most (eqb b controlEscape) (turned Escape c) _ h (collected-most (c .control .count) (c .room) b)
-inside-most Escape c b h = chosen-most (eqb b 0x5D || eqb b 0x5E) _ (cleared BadEscape) (collected-most (c .control .count) (c .room) (b ⊕ 0x20)) (omega arith)
-inside-most BadEscape c b h = h
-inside-most TooLong c b h = h
-
--- where a byte comes, a state is taken as one within 438 bytes
-pub after-taken : (c : Collector) (bs : List ℕ) → 1 ≤ length bs → after (taken c) bs ≡ after c bs
-unfolding after next
-after-taken c [] h = absurd (omega arith)
-after-taken c (b ∷ bs) h = simp (taken-within (taken c) (taken-most c))
 
 -- the bytes before the first flag
 pub unflagged-most : (bs : List ℕ) → unflagged bs ≤ length bs
@@ -87,3 +54,103 @@ unflagged-flagless (b ∷ bs) = go (eqb b flag) refl (unflagged-flagless bs)
     go : (t : Bool) → eqb b flag ≡ t → Flagless (take (unflagged bs) bs) → Flagless (take (cond t 0 (suc (unflagged bs))) (b ∷ bs))
     go true e h = tt
     go false e h = (eqb-false b flag e, h)
+
+-- bytes without a flag stand before the first one
+pub flagless-unflagged : (k : ℕ) (bs : List ℕ) → k ≤ length bs → Flagless (take k bs) → unflagged bs ≡ k + unflagged (drop k bs)
+unfolding unflagged Flagless
+flagless-unflagged zero bs h f = omega arith
+flagless-unflagged (suc k) [] h f = absurd (omega arith)
+flagless-unflagged (suc k) (b ∷ bs) h f = simp (ne-eqb b flag (f .0)) (omega (arith, flagless-unflagged k bs (omega arith) (f .1)))
+
+flagless-append : (xs ys : List ℕ) → Flagless xs → Flagless ys → Flagless (xs ++ ys)
+unfolding Flagless
+flagless-append [] ys f g = g
+flagless-append (x ∷ xs) ys f g = (f .0, flagless-append xs ys (f .1) g)
+
+chosen-most : (t : Bool) (c d : Collector) → c .control .count ≤ 438 → d .control .count ≤ 438 → cond t c d .control .count ≤ 438
+chosen-most true c d h g = h
+chosen-most false c d h g = g
+
+collected-most : (n : ℕ) (room : List ℕ) (b : ℕ) → collected n room b .control .count ≤ 438
+unfolding collected
+collected-most n room b = go (ltb n 438) refl
+  where
+    go : (t : Bool) → ltb n 438 ≡ t → cond t (held (record { count = n + 1; phase = Open }) (set room n b)) (cleared TooLong) .control .count ≤ 438
+    go true e = omega (arith, ltb-true n 438 e)
+    go false e = omega arith
+
+-- no byte leads over 438
+inside-most : (p : Phase) (c : Collector) (b : ℕ) → c .control .count ≤ 438 → inside p c b .control .count ≤ 438
+unfolding inside unescaped
+inside-most LeadIn c b h = h
+inside-most Open c b h = chosen-most (eqb b controlEscape) (turned Escape c) _ h (collected-most (c .control .count) (c .room) b)
+inside-most Escape c b h = chosen-most (eqb b 0x5D || eqb b 0x5E) _ (cleared BadEscape) (collected-most (c .control .count) (c .room) (b ⊕ 0x20)) (omega arith)
+inside-most BadEscape c b h = h
+inside-most TooLong c b h = h
+
+-- no bytes; a byte; bytes and then others
+pub passed-none : {c : Collector} {bs : List ℕ} → c .control .count ≤ 438 → Passed c bs 0 c
+unfolding after Flagless
+passed-none h = record { most = omega arith; flagless = tt; within = h; state = refl }
+
+passed-byte : (c : Collector) (b : ℕ) (bs : List ℕ) → c .control .count ≤ 438 → (b ≡ flag → ⊥) → Passed c (b ∷ bs) 1 (inside (c .control .phase) c b)
+unfolding after Flagless
+passed-byte c b bs h n = record { most = omega arith; flagless = (n, tt); within = inside-most (c .control .phase) c b h; state = inside-next c b h n }
+
+pub passed-more : {c d e : Collector} {bs : List ℕ} {k j : ℕ} → Passed c bs k d → Passed d (drop k bs) j e → Passed c bs (k + j) e
+unfolding after
+passed-more {c} {d} {e} {bs} {k} {j} p q =
+    let both = take-add k j bs in
+    record {
+      most = omega (arith, p .most, q .most, length-drop k bs);
+      flagless = subst Flagless (sym both) (flagless-append (take k bs) (take j (drop k bs)) (p .flagless) (q .flagless));
+      within = q .within;
+      state = q .state ∙ ap (λ (s : Collector). after s (take j (drop k bs))) (p .state) ∙ sym (foldl-append next c (take k bs) (take j (drop k bs))) ∙ ap (after c) (sym both);
+    }
+
+pub passed-one : {c d e : Collector} {bs : List ℕ} {k : ℕ} → Passed c bs k d → k < length bs → (getD bs k 0 ≡ flag → ⊥)
+    → e ≡ inside (d .control .phase) d (getD bs k 0) → Passed c bs (k + 1) e
+passed-one {c} {d} {e} {bs} {k} p h n q =
+    passed-more p
+    (subst (λ (t : List ℕ). Passed d t 1 e) (sym (drop-cons bs k 0 h))
+    (subst (Passed d (getD bs k 0 ∷ drop (suc k) bs) 1) (sym q) (passed-byte d (getD bs k 0) (drop (suc k) bs) (p .within) n)))
+
+-- all that stand before the flag, where none is left
+pub passed-all : {c d : Collector} {bs : List ℕ} {k : ℕ} → Passed c bs k d → unflagged (drop k bs) ≡ 0 → k ≡ unflagged bs
+passed-all {bs = bs} {k = k} p e = omega (arith, e, flagless-unflagged k bs (p .most) (p .flagless))
+
+-- what a part from n on holds
+pub rest : (bs : List ℕ) (n : ℕ) → take (length bs - n) (drop n bs) ≡ drop n bs
+rest bs n = take-all (length bs - n) (drop n bs) (omega (arith, length-drop n bs))
+
+pub passed-part : {c d e : Collector} {bs : List ℕ} {n k : ℕ} → Passed c bs n d → Passed d (take (length bs - n) (drop n bs)) k e → Passed c bs (n + k) e
+passed-part {d = d} {e = e} {bs = bs} {n = n} {k = k} p q = passed-more p (subst (λ (t : List ℕ). Passed d t k e) (rest bs n) q)
+
+-- plain bytes, between flags
+counts : {room : List ℕ} {i j : ℕ} → i ≡ j → opened i room ≡ opened j room
+counts {room} e = ap (λ (k : ℕ). opened k room) e
+
+module _ {n : ℕ} {start bs : List ℕ} where
+  pub plain-none : n ≤ 438 → Passed (opened n start) bs 0 (opened (n + 0) start)
+  plain-none h = subst (Passed (opened n start) bs 0) (counts (omega arith)) (passed-none h)
+
+  pub plain-one : {i : ℕ} {room : List ℕ} → Passed (opened n start) bs i (opened (n + i) room) → i < length bs → n + i < 438
+      → (getD bs i 0 ≡ controlEscape → ⊥) → (getD bs i 0 ≡ flag → ⊥) → Passed (opened n start) bs (i + 1) (opened (n + (i + 1)) (set room (n + i) (getD bs i 0)))
+  plain-one {i} {room} p h l e f =
+      passed-one p h f (counts (omega arith) ∙ collected-room (n + i) room (getD bs i 0) l ∙ open-other (opened (n + i) room) (getD bs i 0) refl e)
+
+-- where a byte changes nothing, all before the flag pass
+pub passed-stuck : (c : Collector) (bs : List ℕ) → c .control .count ≤ 438 → ((b : ℕ) → inside (c .control .phase) c b ≡ c) → Passed c bs (unflagged bs) c
+unfolding after
+passed-stuck c bs h stays = record {
+  most = unflagged-most bs;
+  flagless = unflagged-flagless bs;
+  within = h;
+  state = sym (stuck c h stays (take (unflagged bs) bs) (unflagged-flagless bs));
+}
+
+-- where a byte comes, a state is taken as one within 438 bytes
+pub after-taken : (c : Collector) (bs : List ℕ) → 1 ≤ length bs → after (taken c) bs ≡ after c bs
+unfolding after next
+after-taken c [] h = absurd (omega arith)
+after-taken c (b ∷ bs) h = simp (taken-within (taken c) (taken-most c))

@@ -6,6 +6,7 @@ ghost use lib.ListN.{length, take, replicate};
 ghost use Rattle.fcs.specs.Fcs.{fcs};
 ghost use Rattle.collecting.specs.Step.{held, cleared, fresh, collected, unescaped, inside, checked, closed, taken, next, shown, stepped, left};
 ghost use Rattle.collecting.specs.Stream.{after, isAnswered, run, fed, unflagged};
+ghost use Rattle.collecting.specs.Stretch.{opened, Passed, Leads};
 
 pub enum Phase {
     // before the first flag
@@ -226,17 +227,18 @@ pub struct Fed {
     pub answer: Answer,
 }
 
-// The bytes one after the other, until one is answered or there are no more.
+// The bytes one after the other, until one is answered or there are no more: those before a flag at once, then
+// the flag.
 pub fn feed(control: Control, room: &mut [u8; 438], message: &mut [u8; 436], bytes: &[u8]) -> Fed
     ensures { λ r. ⌜ fed r (now (room .exit)) (now (message .exit)) ≡ run (held control (now (room .entry))) (now (message .entry)) (now (bytes .entry)) ⌝ }
 {
     let mut c = control;
     let mut i = 0;
     while i < bytes.len() {
-        let s = step(c, room, message, bytes[i]);
-        i += 1;
-        c = s.control;
-        let answer = s.answer;
+        let f = through_flag(c, room, message, &bytes[i..]);
+        i += f.taken;
+        c = f.control;
+        let answer = f.answer;
         if is_answered(answer) {
             return Fed {
                 control: c,
@@ -248,6 +250,37 @@ pub fn feed(control: Control, room: &mut [u8; 438], message: &mut [u8; 436], byt
     Fed {
         control: c,
         taken: i,
+        answer: Answer::None,
+    }
+}
+
+// The bytes before the first flag at once, then the flag; all where there is none.
+fn through_flag(
+    control: Control,
+    room: &mut [u8; 438],
+    message: &mut [u8; 436],
+    bytes: &[u8],
+) -> Fed
+    requires { ⌜ 1 ≤ length (now bytes) ⌝ }
+    ensures { λ r. ⌜ 1 ≤ r .taken ⌝ }
+    ensures { λ r. ⌜ Leads (held control (now (room .entry))) (now (message .entry)) (now (bytes .entry)) (fed r (now (room .exit)) (now (message .exit))) ⌝ }
+{
+    let filled = fill(control, room, bytes);
+    let n = filled.taken;
+    let control = filled.control;
+    if n < bytes.len() {
+        let s = step(control, room, message, bytes[n]);
+        let opened = s.control;
+        let answer = s.answer;
+        return Fed {
+            control: opened,
+            taken: n + 1,
+            answer,
+        };
+    }
+    Fed {
+        control,
+        taken: n,
         answer: Answer::None,
     }
 }
@@ -293,20 +326,110 @@ fn fill_within(control: Control, room: &mut [u8; 438], bytes: &[u8]) -> Filled
     let mut c = control;
     let mut n = 0;
     while n < bytes.len() {
-        let b = bytes[n];
-        if b == 0x7E {
+        if bytes[n] == 0x7E {
             return Filled {
                 control: c,
                 taken: n,
             };
         }
-        c = inside_frame(c, room, b);
-        n += 1;
+        let s = through_stretch(c, room, &bytes[n..]);
+        n += s.taken;
+        c = s.control;
     }
     Filled {
         control: c,
         taken: n,
     }
+}
+
+// A stretch, then the byte that ends it, unless it is a flag.
+fn through_stretch(control: Control, room: &mut [u8; 438], bytes: &[u8]) -> Filled
+    requires { ⌜ (control .count ≤ 438) × (1 ≤ unflagged (now bytes)) ⌝ }
+    ensures { λ r. ⌜ Passed (held control (now (room .entry))) (now (bytes .entry)) (r .taken) (held (r .control) (now (room .exit))) ⌝ }
+    ensures { λ r. ⌜ 1 ≤ r .taken ⌝ }
+{
+    let s = stretch(control, room, bytes);
+    let k = s.taken;
+    let c = s.control;
+    if k < bytes.len() {
+        let b = bytes[k];
+        if b != 0x7E {
+            return Filled {
+                control: inside_frame(c, room, b),
+                taken: k + 1,
+            };
+        }
+    }
+    s
+}
+
+// The bytes that the phase takes at once: plain ones between flags, and all up to a flag where nothing else counts.
+fn stretch(control: Control, room: &mut [u8; 438], bytes: &[u8]) -> Filled
+    requires { ⌜ control .count ≤ 438 ⌝ }
+    ensures { λ r. ⌜ Passed (held control (now (room .entry))) (now (bytes .entry)) (r .taken) (held (r .control) (now (room .exit))) ⌝ }
+{
+    let n = control.count;
+    let phase = control.phase;
+    match phase {
+        Phase::Open => {
+            let k = plain(n, room, bytes);
+            Filled {
+                control: Control {
+                    count: n + k,
+                    phase: Phase::Open,
+                },
+                taken: k,
+            }
+        }
+        Phase::Escape => Filled { control, taken: 0 },
+        _ => Filled {
+            control,
+            taken: before_flag(bytes),
+        },
+    }
+}
+
+fn before_flag(bytes: &[u8]) -> usize
+    ensures { λ r. ⌜ r ≡ unflagged (now (bytes .entry)) ⌝ }
+{
+    let mut i = 0;
+    while i < bytes.len() {
+        if bytes[i] == 0x7E {
+            return i;
+        }
+        i += 1;
+    }
+    i
+}
+
+// The bytes that are neither flag nor escape, behind n others, as many as stand in a row and have room: how many.
+fn plain(n: usize, room: &mut [u8; 438], bytes: &[u8]) -> usize
+    requires { ⌜ n ≤ 438 ⌝ }
+    ensures { λ k. ⌜ Passed (opened n (now (room .entry))) (now (bytes .entry)) k (opened (n + k) (now (room .exit))) ⌝ }
+{
+    let end = least(438 - n, bytes.len());
+    let mut i = 0;
+    while i < end {
+        let sent = bytes[i];
+        if sent == 0x7D {
+            return i;
+        }
+        if sent == 0x7E {
+            return i;
+        }
+        room[n + i] = sent;
+        i += 1;
+    }
+    i
+}
+
+fn least(a: usize, b: usize) -> usize
+    ensures { λ r. ⌜ (r ≤ a) × (r ≤ b) ⌝ }
+{
+    if a < b {
+        return a;
+    }
+    b
 }
 
 pub fn is_answered(answer: Answer) -> bool

@@ -1,6 +1,7 @@
 //! The proved library held against the reference: what both sides' values are to
-//! each other, and the collecting that is there only to be measured.
+//! each other, the collecting that is there only to be measured, and a clock.
 
+pub mod clock;
 pub mod messages;
 
 extern "C" {

@@ -28,11 +28,16 @@ use crate::Message;
 /// # Ok::<(), gdl90::Error>(())
 /// ```
 #[derive(Clone)]
+// In one page of memory: the room is cleared at each flag, which takes three
+// times as long where it crosses into the next page.
+#[repr(align(1024))]
 pub struct Collector {
     control: FeedControl,
     room: [u8; ROOM],
     message: [u8; MESSAGE_MAX],
 }
+
+const _: () = assert!(std::mem::size_of::<Collector>() == std::mem::align_of::<Collector>());
 
 /// What [`Collector::feed`] did.
 #[derive(Clone, Copy, Debug, PartialEq, Eq)]

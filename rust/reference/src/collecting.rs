@@ -70,24 +70,47 @@ impl Collector {
         Answer::None
     }
 
-    /// Takes bytes without a flag, which are not answered: as `push` does, but
-    /// what is between two escapes is copied whole.
-    pub fn extend(&mut self, mut bytes: &[u8]) {
-        while let [first, rest @ ..] = bytes {
-            match self.phase {
-                Phase::LeadIn | Phase::Fault(_) => return,
-                Phase::Clear if *first != ESCAPE => {
-                    let escape = bytes.iter().position(|&byte| byte == ESCAPE);
-                    let (clear, rest) = bytes.split_at(escape.unwrap_or(bytes.len()));
-                    self.collect_all(clear);
-                    bytes = rest;
+    /// Takes bytes until one is answered: how many, and the answer. As `push` for
+    /// each, but what stands between two flags or escapes is copied whole.
+    pub fn feed(&mut self, bytes: &[u8]) -> (usize, Answer<'_>) {
+        let mut taken = 0;
+        loop {
+            taken += self.fill(&bytes[taken..]);
+            if taken == bytes.len() {
+                return (taken, Answer::None);
+            }
+            taken += 1;
+            match (self.phase, self.count) {
+                (Phase::LeadIn, _) | (Phase::Clear, 0) => self.phase = Phase::Clear,
+                _ => return (taken, self.close()),
+            }
+        }
+    }
+
+    /// Takes the bytes before the first flag, or all where there is none: how
+    /// many. None of them is answered.
+    pub fn fill(&mut self, bytes: &[u8]) -> usize {
+        let mut rest = bytes;
+        while let [first, behind @ ..] = rest {
+            match (self.phase, *first) {
+                (_, FLAG) => break,
+                (Phase::LeadIn | Phase::Fault(_), _) => {
+                    let flag = rest.iter().position(|&byte| byte == FLAG);
+                    rest = &rest[flag.unwrap_or(rest.len())..];
                 }
-                Phase::Clear | Phase::Escape => {
+                (Phase::Clear, ESCAPE) | (Phase::Escape, _) => {
                     self.push(*first);
-                    bytes = rest;
+                    rest = behind;
+                }
+                (Phase::Clear, _) => {
+                    let special = rest.iter().position(|&byte| byte == FLAG || byte == ESCAPE);
+                    let (plain, others) = rest.split_at(special.unwrap_or(rest.len()));
+                    self.collect_all(plain);
+                    rest = others;
                 }
             }
         }
+        bytes.len() - rest.len()
     }
 
     fn collect_all(&mut self, bytes: &[u8]) {
@@ -309,25 +332,20 @@ mod tests {
         assert_eq!(numbers(&between_flags(&swapped)), [5]);
     }
 
-    /// Whole stretches between flags, and cut where it may be.
+    /// In pieces of whatever length.
     #[test]
-    fn extending_is_pushing_each_byte() {
+    fn feeding_is_pushing_each_byte() {
         let mut random = Xorshift::new(17);
         for round in 0..200 {
             let stream = mixed(&mut random, 10_000);
             let mut collector = Collector::new();
             let mut kept = Vec::new();
             let mut at = 0;
-            for stretch in stream.split_inclusive(|&byte| byte == FLAG) {
-                at += stretch.len();
-                let flag = stretch.ends_with(&[FLAG]);
-                let bytes = &stretch[..stretch.len() - usize::from(flag)];
-                let (front, behind) = bytes.split_at(random.below(bytes.len() + 1));
-                collector.extend(front);
-                collector.extend(behind);
-                if flag {
-                    kept.extend(Kept::new(at - 1, collector.push(FLAG)));
-                }
+            while at < stream.len() {
+                let end = stream.len().min(at + random.below(600));
+                let (taken, answer) = collector.feed(&stream[at..end]);
+                at += taken;
+                kept.extend(Kept::new(at.saturating_sub(1), answer));
             }
             assert_eq!(kept, answers(&stream), "round {round}");
         }

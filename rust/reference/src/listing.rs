@@ -70,15 +70,16 @@ struct Lister {
 }
 
 impl Lister {
-    fn list(&mut self, bytes: &[u8], out: &mut impl Write) -> io::Result<()> {
-        for stretch in bytes.split_inclusive(|&byte| byte == FLAG) {
-            self.taken += stretch.len() as u64;
-            let [before @ .., FLAG] = stretch else {
-                self.collector.extend(stretch);
-                break;
-            };
-            self.collector.extend(before);
-            self.close(out)?;
+    fn list(&mut self, mut bytes: &[u8], out: &mut impl Write) -> io::Result<()> {
+        while !bytes.is_empty() {
+            let before = self.collector.fill(bytes);
+            self.taken += before as u64;
+            bytes = &bytes[before..];
+            if let [FLAG, behind @ ..] = bytes {
+                self.taken += 1;
+                self.close(out)?;
+                bytes = behind;
+            }
         }
         Ok(())
     }

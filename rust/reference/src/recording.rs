@@ -13,6 +13,9 @@ const SPEED_LENGTH: usize = 1 << 20;
 /// Makes what is sent in place of the message's frame.
 type Damage = fn(&mut Xorshift, &[u8]) -> Vec<u8>;
 
+/// So many of them, the first, leave no whole frame.
+const FAULTS: usize = 10;
+
 const DAMAGES: [Damage; 14] = [
     flipped_message,
     flipped_sequence,
@@ -91,6 +94,34 @@ pub fn speed_recording() -> Vec<u8> {
 /// The same mix in this length, of messages that can be read.
 pub fn readable_recording(length: usize) -> Vec<u8> {
     traffic_of(length, samples::whole)
+}
+
+/// Streams of one MiB that are no usual traffic, with a name for each.
+pub fn shapes() -> [(&'static str, Vec<u8>); 6] {
+    let mut random = Xorshift::new(18);
+    [
+        ("flags", vec![FLAG; SPEED_LENGTH]),
+        ("escapes", vec![ESCAPE; SPEED_LENGTH]),
+        ("lead_in", without_flags(&mut random, SPEED_LENGTH)),
+        ("noise", random.message(SPEED_LENGTH)),
+        ("escaped", repeated(|| framed(&[FLAG; MESSAGE_MAX]))),
+        ("faults", repeated(|| faulty(&mut random))),
+    ]
+}
+
+fn repeated(mut part: impl FnMut() -> Vec<u8>) -> Vec<u8> {
+    let mut out = Vec::new();
+    while out.len() < SPEED_LENGTH {
+        out.extend(part());
+    }
+    out.truncate(SPEED_LENGTH);
+    out
+}
+
+/// A frame that is refused.
+fn faulty(random: &mut Xorshift) -> Vec<u8> {
+    let message = any_message(random);
+    DAMAGES[random.below(FAULTS)](random, &message)
 }
 
 /// Makes a message of the kind with this id.
@@ -305,6 +336,20 @@ mod tests {
             assert!((30..=80).contains(&(kept.len() / refused)));
             for number in 1..=5 {
                 assert!(count(&kept, |kept| kept.number == number) > 0);
+            }
+        }
+    }
+
+    #[test]
+    fn shapes_are_as_described() {
+        for (name, stream) in shapes() {
+            let kept = answers(&stream);
+            let whole = count(&kept, |kept| kept.number == 0);
+            match name {
+                "escaped" => assert_eq!(whole, kept.len()),
+                "faults" => assert!(kept.len() > 5_000 && whole < kept.len() / 20),
+                "noise" => assert!(kept.len() > 3_000 && whole < 10),
+                _ => assert_eq!(kept, [], "{name}"),
             }
         }
     }

@@ -1,10 +1,15 @@
-//! Speed of the proved library against the reference, in one run.
+//! Speed of the proved library against the reference, in one run, by the time
+//! that the processor works.
 //! One line for each benchmark: name, ns per message (collecting: per byte of
-//! the stream) of each, their ratio.
+//! the stream) of each, their ratio. Collecting has a second line, against plain
+//! Rust that copies what stands between two flags or escapes whole.
+//!
+//! With the name of a stream as its argument it only collects that, by the proved
+//! library: for a profiler.
 
 use std::hint::black_box;
-use std::time::Instant;
 
+use compare::clock::processor_time;
 use gdl90::{raw, Message};
 use reference::collecting::Answer;
 use reference::framing::{Framed, MESSAGE_MAX};
@@ -13,14 +18,15 @@ use reference::messages::{
     UPLINK_ID, WRONG_LENGTH,
 };
 use reference::payloads;
-use reference::recording::speed_recording;
+use reference::recording::{shapes, speed_recording};
 use reference::samples::whole;
 use reference::uplink::Frame;
 use reference::xorshift::Xorshift;
 
 const MESSAGES: usize = 64;
-/// Times the whole set is gone through in one timed round.
-const PASSES: usize = 8;
+/// Times the whole set is gone through in one timed round: many, as asking for the
+/// processor's time takes some itself.
+const PASSES: usize = 128;
 const ROUNDS: usize = 101;
 /// Fewer for collecting: a round goes through a whole MiB.
 const COLLECT_ROUNDS: usize = 41;
@@ -31,6 +37,12 @@ const ROOM: usize = 2 * MESSAGE_MAX + 6;
 const ADDED: [u8; 40] = [0xD5; 40];
 
 fn main() {
+    if let Some(wanted) = std::env::args().nth(1) {
+        let stream = streams().find(|(name, _)| *name == wanted);
+        let (_, stream) = stream.expect("the name of a stream");
+        black_box(rattle_collect(black_box(&stream)));
+        return;
+    }
     let mut random = Xorshift::new(5);
     let plain = message_set(&mut random, 0);
     let escapes = message_set(&mut random, 4);
@@ -43,7 +55,14 @@ fn main() {
     let ids = LENGTHS.map(|(id, _)| id);
     let others: Vec<u8> = ids.into_iter().filter(|&id| id != UPLINK_ID).collect();
     measure_typed(&whole_set(&mut random, &others));
-    measure_collect(&speed_recording());
+    for (name, stream) in streams() {
+        measure_collect(name, &stream);
+    }
+    measure_by_value(&speed_recording());
+}
+
+fn streams() -> impl Iterator<Item = (&'static str, Vec<u8>)> {
+    std::iter::once(("recording", speed_recording())).chain(shapes())
 }
 
 fn message_set(random: &mut Xorshift, eighths: usize) -> Vec<Vec<u8>> {
@@ -278,12 +297,25 @@ fn go_through<T, A>(items: &[T], call: &mut impl FnMut(&T) -> A) {
 struct Tally {
     answers: usize,
     message_bytes: usize,
+    /// The numbers of refusals, added.
+    numbers: usize,
 }
 
 impl Tally {
-    fn add(&mut self, message: Option<&[u8]>) {
+    fn add(&mut self, answer: Result<&[u8], u8>) {
         self.answers += 1;
-        self.message_bytes += message.map_or(0, <[u8]>::len);
+        match answer {
+            Ok(message) => self.message_bytes += message.len(),
+            Err(number) => self.numbers += usize::from(number),
+        }
+    }
+
+    fn add_reference(&mut self, answer: Answer) {
+        match answer {
+            Answer::None => {}
+            Answer::Message(message) => self.add(Ok(message)),
+            Answer::Refused(number) => self.add(Err(number)),
+        }
     }
 }
 
@@ -295,7 +327,7 @@ fn rattle_collect(mut stream: &[u8]) -> Tally {
         let fed = collector.feed(stream);
         stream = &stream[fed.taken..];
         if let Some(answer) = fed.answer {
-            tally.add(answer.ok());
+            tally.add(answer.map_err(gdl90::Error::number));
         }
     }
     tally
@@ -306,20 +338,29 @@ fn reference_collect(stream: &[u8]) -> Tally {
     let mut tally = Tally::default();
     let mut collector = reference::collecting::Collector::new();
     for &byte in stream {
-        match collector.push(byte) {
-            Answer::None => {}
-            Answer::Message(message) => tally.add(Some(message)),
-            Answer::Refused(_) => tally.add(None),
-        }
+        tally.add_reference(collector.push(byte));
     }
     tally
 }
 
-fn measure_collect(stream: &[u8]) {
+/// What stands between two flags or escapes is copied whole.
+#[inline(never)]
+fn reference_collect_whole(mut stream: &[u8]) -> Tally {
+    let mut tally = Tally::default();
+    let mut collector = reference::collecting::Collector::new();
+    while !stream.is_empty() {
+        let (taken, answer) = collector.feed(stream);
+        stream = &stream[taken..];
+        tally.add_reference(answer);
+    }
+    tally
+}
+
+fn measure_collect(name: &str, stream: &[u8]) {
     let expected = reference_collect(stream);
-    assert_eq!(rattle_collect(stream), expected);
-    assert_eq!(compare::answers_by_value(stream), expected.answers);
-    let [rattle, rust, by_value] = medians(
+    assert_eq!(rattle_collect(stream), expected, "{name}");
+    assert_eq!(reference_collect_whole(stream), expected, "{name}");
+    let [rattle, bytewise, whole] = medians(
         COLLECT_ROUNDS,
         [
             &mut || {
@@ -329,14 +370,31 @@ fn measure_collect(stream: &[u8]) {
                 black_box(reference_collect(black_box(stream)));
             },
             &mut || {
-                black_box(compare::answers_by_value(black_box(stream)));
+                black_box(reference_collect_whole(black_box(stream)));
             },
         ],
     )
     .map(|round| round / stream.len() as f64);
-    for (name, rattle) in [("collect", rattle), ("collect_by_value", by_value)] {
-        report(name, "ns/byte", 3, [rattle, rust]);
-    }
+    report(name, "ns/byte", 3, [rattle, bytewise]);
+    report(&format!("{name}_whole"), "ns/byte", 3, [rattle, whole]);
+}
+
+fn measure_by_value(stream: &[u8]) {
+    let expected = reference_collect(stream).answers;
+    assert_eq!(compare::answers_by_value(stream), expected);
+    let sides = medians(
+        COLLECT_ROUNDS,
+        [
+            &mut || {
+                black_box(compare::answers_by_value(black_box(stream)));
+            },
+            &mut || {
+                black_box(reference_collect(black_box(stream)));
+            },
+        ],
+    )
+    .map(|round| round / stream.len() as f64);
+    report("by_value", "ns/byte", 3, sides);
 }
 
 fn report(name: &str, unit: &str, decimals: usize, [rattle, rust]: [f64; 2]) {
@@ -346,16 +404,16 @@ fn report(name: &str, unit: &str, decimals: usize, [rattle, rust]: [f64; 2]) {
     );
 }
 
-/// Median nanoseconds of a round of each side. The rounds are interleaved,
-/// each side first in turn, so that drift hits all.
+/// Median nanoseconds of processor time of a round of each side. The rounds are
+/// interleaved, each side first in turn, so that drift hits all.
 fn medians<const SIDES: usize>(rounds: usize, sides: [&mut dyn FnMut(); SIDES]) -> [f64; SIDES] {
     let mut taken = [const { Vec::new() }; SIDES];
     for round in 0..WARM_UP + rounds {
         for turn in 0..SIDES {
             let side = (round + turn) % SIDES;
-            let start = Instant::now();
+            let start = processor_time();
             sides[side]();
-            let elapsed = start.elapsed().as_nanos() as f64;
+            let elapsed = (processor_time() - start).as_nanos() as f64;
             if round >= WARM_UP {
                 taken[side].push(elapsed);
             }

@@ -1,0 +1,45 @@
+-- `collecting::stretch` meets its contract, by the phase.
+-- Assumes nothing.
+use mathlib.Core.Path.{_≡_, refl, sym, ap, subst}
+use mathlib.Core.List.{[], _∷_}
+use Prim.Native.Nat.{ℕ, _+_}
+use denote.Enum.Declared.{tagOf}
+use types.Run.{OneOf, miss}
+use Rattle.collecting.specs.declared.Phase.{Phase}
+use Rattle.collecting.specs.declared.Phase.the-variants.{LeadIn, Open, Escape, BadEscape, TooLong}
+use Rattle.collecting.proofs.Phase as phase
+use Rattle.collecting.specs.declared.Collector.{Collector}
+use Rattle.collecting.specs.Step.{held, turned, inside}
+use Rattle.collecting.specs.Stretch.{opened, Passed}
+use Rattle.collecting.proofs.Filling.{passed-none, passed-stuck}
+use borrow.Author.Needs.{needs}
+use Rattle.collecting.proofs.stretch.Statement.{statement}
+use Rattle.collecting.proofs.stretch.Tie as tie
+
+-- the phases of the last arm
+stays : (p : Phase) → OneOf (0 ∷ 3 ∷ 4 ∷ []) (tagOf phase.the-type p) → (c : Collector) (b : ℕ) → inside p c b ≡ c
+unfolding inside
+stays LeadIn k c b = refl
+stays Open k c b = absurd (miss (0 ∷ 3 ∷ 4 ∷ []) 1 tt k)
+stays Escape k c b = absurd (miss (0 ∷ 3 ∷ 4 ∷ []) 2 tt k)
+stays BadEscape k c b = refl
+stays TooLong k c b = refl
+
+returns : tie.Need-returns
+returns c =
+    let a = c .before .before .before .before .before .args in
+    subst (λ (s : Collector). Passed s (a .bytes .now) (c .plain .result) (opened (a .control .count + c .plain .result) (c .plain .last .1 .0)))
+    (ap (λ (p : Phase). turned p (held (a .control) (a .room .now))) (sym (c .before .before .enum-told .given .1))) (c .plain .ensures)
+
+returns-2 : tie.Need-returns-2
+returns-2 c = passed-none (c .before .before .before .pre)
+
+returns-3 : tie.Need-returns-3
+returns-3 c =
+    let a = c .before .before .before .args in
+    let s = held (a .control) (a .room .now) in
+    subst (λ (k : ℕ). Passed s (a .bytes .now) k s) (sym (c .before-flag .ensures))
+    (passed-stuck s (a .bytes .now) (c .before .before .before .pre) (stays (a .control .phase) (c .before .match .keys3) s))
+
+pub stretch-spec : {M : Type 1} → statement M
+stretch-spec = tie.close (tie.spec (search needs) (search needs) (search needs) (search needs) (search needs) returns returns-2 returns-3)
