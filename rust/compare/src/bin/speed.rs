@@ -4,8 +4,8 @@
 //! the stream) of each, their ratio. Collecting has a second line, against plain
 //! Rust that copies what stands between two flags or escapes whole.
 //!
-//! With the name of a stream as its argument it only collects that, by the proved
-//! library: for a profiler.
+//! With the name of a stream as its argument it only collects that, 20 times, by
+//! the proved library: for a profiler.
 
 use std::hint::black_box;
 
@@ -31,6 +31,7 @@ const ROUNDS: usize = 101;
 /// Fewer for collecting: a round goes through a whole MiB.
 const COLLECT_ROUNDS: usize = 41;
 const WARM_UP: usize = 10;
+const PROFILED_PASSES: usize = 20;
 /// The longest frame: every byte escaped, and two flags (01).
 const ROOM: usize = 2 * MESSAGE_MAX + 6;
 /// Data of the frame that is added to each payload.
@@ -40,7 +41,9 @@ fn main() {
     if let Some(wanted) = std::env::args().nth(1) {
         let stream = streams().find(|(name, _)| *name == wanted);
         let (_, stream) = stream.expect("the name of a stream");
-        black_box(rattle_collect(black_box(&stream)));
+        for _ in 0..PROFILED_PASSES {
+            black_box(rattle_collect(black_box(&stream)));
+        }
         return;
     }
     let mut random = Xorshift::new(5);
