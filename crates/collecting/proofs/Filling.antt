@@ -3,7 +3,7 @@
 use mathlib.Core.Path.{_≡_, refl, sym, ap, _∙_, subst}
 use mathlib.Core.Bool.{Bool, true, false, cond, _||_}
 use Prim.Native.Nat.{ℕ, zero, suc, _+_, _-_, _≤_, _<_}
-use mathlib.Core.List.{List, [], _∷_, _++_, foldl-append}
+use mathlib.Core.List.{List, [], _∷_, foldl-append}
 use native.Mathlib.Omega.{arith}
 use native.Mathlib.Numerals.{add-one}
 use lib.Dec.{eqb, ltb}
@@ -36,7 +36,6 @@ module _ (bs : List ℕ) (i : ℕ) where
     unfolding unflagged
     unflagged-more n = rw (add-one, drop-cons bs i 0 h, ne-eqb (getD bs i 0) flag n)
 
--- the bytes before the first flag
 pub unflagged-most : (bs : List ℕ) → unflagged bs ≤ length bs
 unfolding unflagged
 unflagged-most [] = omega arith
@@ -55,17 +54,16 @@ unflagged-flagless (b ∷ bs) = go (eqb b flag) refl (unflagged-flagless bs)
     go true e h = tt
     go false e h = (eqb-false b flag e, h)
 
--- bytes without a flag stand before the first one
-pub flagless-unflagged : (k : ℕ) (bs : List ℕ) → k ≤ length bs → Flagless (take k bs) → unflagged bs ≡ k + unflagged (drop k bs)
-unfolding unflagged Flagless
-flagless-unflagged zero bs h f = omega arith
-flagless-unflagged (suc k) [] h f = absurd (omega arith)
-flagless-unflagged (suc k) (b ∷ bs) h f = simp (ne-eqb b flag (f .0)) (omega (arith, flagless-unflagged k bs (omega arith) (f .1)))
-
-flagless-append : (xs ys : List ℕ) → Flagless xs → Flagless ys → Flagless (xs ++ ys)
-unfolding Flagless
-flagless-append [] ys f g = g
-flagless-append (x ∷ xs) ys f g = (f .0, flagless-append xs ys (f .1) g)
+unflagged-drop : (k : ℕ) (bs : List ℕ) → k ≤ unflagged bs → unflagged bs ≡ k + unflagged (drop k bs)
+unfolding unflagged
+unflagged-drop zero bs h = omega arith
+unflagged-drop (suc k) [] h = absurd (omega arith)
+unflagged-drop (suc k) (b ∷ bs) h = go (eqb b flag) h (unflagged-drop k bs)
+  where
+    go : (t : Bool) → suc k ≤ cond t 0 (suc (unflagged bs)) → (k ≤ unflagged bs → unflagged bs ≡ k + unflagged (drop k bs))
+        → cond t 0 (suc (unflagged bs)) ≡ suc k + unflagged (drop k bs)
+    go true h f = absurd (omega arith)
+    go false h f = omega (arith, f (omega arith))
 
 chosen-most : (t : Bool) (c d : Collector) → c .control .count ≤ 438 → d .control .count ≤ 438 → cond t c d .control .count ≤ 438
 chosen-most true c d h g = h
@@ -90,23 +88,21 @@ inside-most TooLong c b h = h
 
 -- no bytes; a byte; bytes and then others
 pub passed-none : {c : Collector} {bs : List ℕ} → c .control .count ≤ 438 → Passed c bs 0 c
-unfolding after Flagless
-passed-none h = record { most = omega arith; flagless = tt; within = h; state = refl }
+unfolding after
+passed-none h = record { before = omega arith; within = h; state = refl }
 
 passed-byte : (c : Collector) (b : ℕ) (bs : List ℕ) → c .control .count ≤ 438 → (b ≡ flag → ⊥) → Passed c (b ∷ bs) 1 (inside (c .control .phase) c b)
-unfolding after Flagless
-passed-byte c b bs h n = record { most = omega arith; flagless = (n, tt); within = inside-most (c .control .phase) c b h; state = inside-next c b h n }
+unfolding after unflagged
+passed-byte c b bs h n = record { before = simp (ne-eqb b flag n) (omega arith); within = inside-most (c .control .phase) c b h; state = inside-next c b h n }
 
-pub passed-more : {c d e : Collector} {bs : List ℕ} {k j : ℕ} → Passed c bs k d → Passed d (drop k bs) j e → Passed c bs (k + j) e
+passed-more : {c d e : Collector} {bs : List ℕ} {k j : ℕ} → Passed c bs k d → Passed d (drop k bs) j e → Passed c bs (k + j) e
 unfolding after
-passed-more {c} {d} {e} {bs} {k} {j} p q =
-    let both = take-add k j bs in
-    record {
-      most = omega (arith, p .most, q .most, length-drop k bs);
-      flagless = subst Flagless (sym both) (flagless-append (take k bs) (take j (drop k bs)) (p .flagless) (q .flagless));
-      within = q .within;
-      state = q .state ∙ ap (λ (s : Collector). after s (take j (drop k bs))) (p .state) ∙ sym (foldl-append next c (take k bs) (take j (drop k bs))) ∙ ap (after c) (sym both);
-    }
+passed-more {c} {d} {e} {bs} {k} {j} p q = record {
+  before = omega (arith, unflagged-drop k bs (p .before), q .before);
+  within = q .within;
+  state = q .state ∙ ap (λ (s : Collector). after s (take j (drop k bs))) (p .state) ∙ sym (foldl-append next c (take k bs) (take j (drop k bs)))
+      ∙ ap (after c) (sym (take-add k j bs));
+}
 
 pub passed-one : {c d e : Collector} {bs : List ℕ} {k : ℕ} → Passed c bs k d → k < length bs → (getD bs k 0 ≡ flag → ⊥)
     → e ≡ inside (d .control .phase) d (getD bs k 0) → Passed c bs (k + 1) e
@@ -115,9 +111,8 @@ passed-one {c} {d} {e} {bs} {k} p h n q =
     (subst (λ (t : List ℕ). Passed d t 1 e) (sym (drop-cons bs k 0 h))
     (subst (Passed d (getD bs k 0 ∷ drop (suc k) bs) 1) (sym q) (passed-byte d (getD bs k 0) (drop (suc k) bs) (p .within) n)))
 
--- all that stand before the flag, where none is left
 pub passed-all : {c d : Collector} {bs : List ℕ} {k : ℕ} → Passed c bs k d → unflagged (drop k bs) ≡ 0 → k ≡ unflagged bs
-passed-all {bs = bs} {k = k} p e = omega (arith, e, flagless-unflagged k bs (p .most) (p .flagless))
+passed-all {bs = bs} {k = k} p e = omega (arith, e, unflagged-drop k bs (p .before))
 
 -- what a part from n on holds
 pub rest : (bs : List ℕ) (n : ℕ) → take (length bs - n) (drop n bs) ≡ drop n bs
@@ -142,12 +137,7 @@ module _ {n : ℕ} {start bs : List ℕ} where
 -- where a byte changes nothing, all before the flag pass
 pub passed-stuck : (c : Collector) (bs : List ℕ) → c .control .count ≤ 438 → ((b : ℕ) → inside (c .control .phase) c b ≡ c) → Passed c bs (unflagged bs) c
 unfolding after
-passed-stuck c bs h stays = record {
-  most = unflagged-most bs;
-  flagless = unflagged-flagless bs;
-  within = h;
-  state = sym (stuck c h stays (take (unflagged bs) bs) (unflagged-flagless bs));
-}
+passed-stuck c bs h stays = record { before = omega arith; within = h; state = sym (stuck c h stays (take (unflagged bs) bs) (unflagged-flagless bs)) }
 
 -- where a byte comes, a state is taken as one within 438 bytes
 pub after-taken : (c : Collector) (bs : List ℕ) → 1 ≤ length bs → after (taken c) bs ≡ after c bs

@@ -5,11 +5,10 @@ use Prim.Native.Nat.{ℕ, _+_, _≤_}
 use mathlib.Core.Bool.{cond}
 use mathlib.Core.List.{List}
 use lib.ListN.{length, take, drop}
-use Rattle.framing.specs.Stuffing.{Flagless}
 use Rattle.collecting.specs.declared.Phase.the-variants.{Open}
 use Rattle.collecting.specs.declared.Collector.{Collector}
 use Rattle.collecting.specs.Step.{held}
-use Rattle.collecting.specs.Stream.{after, isAnswered, Run, ran, run}
+use Rattle.collecting.specs.Stream.{after, isAnswered, Run, ran, run, unflagged}
 
 -- between flags, with n bytes collected
 abbrev pub opened : ℕ → List ℕ → Collector
@@ -17,16 +16,15 @@ opened n room = held (record { count = n; phase = Open }) room
 
 -- k of the bytes were taken, no flag among them, and the state went from c to d
 pub record Passed (c : Collector) (bytes : List ℕ) (k : ℕ) (d : Collector) : Type 0 where
-  pub most : k ≤ length bytes
-  pub flagless : Flagless (take k bytes)
+  pub before : k ≤ unflagged bytes
   pub within : d .control .count ≤ 438
   pub state : d ≡ after c (take k bytes)
 
 -- a run, behind i bytes that were answered nothing
-abbrev pub behind : ℕ → Run → Run
-behind i r = ran (i + r .count) (r .last)
+abbrev pub runBehind : ℕ → Run → Run
+runBehind i r = ran (i + r .count) (r .last)
 
 -- r is the run of the bytes, or, where nothing is answered, its beginning: the bytes that are left lead on to it
 pub record Leads (c : Collector) (m bytes : List ℕ) (r : Run) : Type 0 where
   pub most : r .count ≤ length bytes
-  pub whole : cond (isAnswered (r .last .answer)) r (behind (r .count) (run (r .last .state) (r .last .message) (drop (r .count) bytes))) ≡ run c m bytes
+  pub whole : cond (isAnswered (r .last .answer)) r (runBehind (r .count) (run (r .last .state) (r .last .message) (drop (r .count) bytes))) ≡ run c m bytes

@@ -1,7 +1,7 @@
 // Collecting frames from a byte stream (001 §2.2.1; 01 'Flags, escapes, check sequence').
 ghost use mathlib.Core.Path.{_≡_};
 ghost use mathlib.Core.List.{_++_};
-ghost use Prim.Native.Nat.{_+_, _-_, _*_, _≤_, _<_};
+ghost use Prim.Native.Nat.{_+_, _-_, _*_, _≤_, _<_, min};
 ghost use lib.ListN.{length, take, replicate};
 ghost use Rattle.fcs.specs.Fcs.{fcs};
 ghost use Rattle.collecting.specs.Step.{held, cleared, fresh, collected, unescaped, inside, checked, closed, taken, next, shown, stepped, left};
@@ -162,18 +162,13 @@ fn show(bytes: &[u8], k: usize, message: &mut [u8; 436])
     }
 }
 
-// A byte that is no flag. The control is made anew in each arm: handed back as it came, its padding
-// would be copied at each byte.
+// A byte that is no flag.
 fn inside_frame(control: Control, room: &mut [u8; 438], byte: u8) -> Control
     ensures { λ r. ⌜ held r (now (room .exit)) ≡ inside (control .phase) (held control (now (room .entry))) byte ⌝ }
 {
     let n = control.count;
     let phase = control.phase;
     match phase {
-        Phase::LeadIn => Control {
-            count: n,
-            phase: Phase::LeadIn,
-        },
         Phase::Open => {
             if byte == 0x7D {
                 Control {
@@ -185,14 +180,7 @@ fn inside_frame(control: Control, room: &mut [u8; 438], byte: u8) -> Control
             }
         }
         Phase::Escape => after_escape(n, room, byte),
-        Phase::BadEscape => Control {
-            count: n,
-            phase: Phase::BadEscape,
-        },
-        Phase::TooLong => Control {
-            count: n,
-            phase: Phase::TooLong,
-        },
+        _ => control,
     }
 }
 
@@ -227,8 +215,7 @@ pub struct Fed {
     pub answer: Answer,
 }
 
-// The bytes one after the other, until one is answered or there are no more: those before a flag at once, then
-// the flag.
+// The bytes one after the other, until one is answered or there are no more.
 pub fn feed(control: Control, room: &mut [u8; 438], message: &mut [u8; 436], bytes: &[u8]) -> Fed
     ensures { λ r. ⌜ fed r (now (room .exit)) (now (message .exit)) ≡ run (held control (now (room .entry))) (now (message .entry)) (now (bytes .entry)) ⌝ }
 {
@@ -270,10 +257,10 @@ fn through_flag(
     let control = filled.control;
     if n < bytes.len() {
         let s = step(control, room, message, bytes[n]);
-        let opened = s.control;
+        let behind = s.control;
         let answer = s.answer;
         return Fed {
-            control: opened,
+            control: behind,
             taken: n + 1,
             answer,
         };
@@ -317,7 +304,7 @@ fn within(control: Control, room: &mut [u8; 438]) -> Control
     control
 }
 
-// The count is tested before the bytes, and not at each.
+// Stretch after stretch, up to a flag.
 fn fill_within(control: Control, room: &mut [u8; 438], bytes: &[u8]) -> Filled
     requires { ⌜ control .count ≤ 438 ⌝ }
     ensures { λ r. ⌜ r .taken ≡ unflagged (now (bytes .entry)) ⌝ }
@@ -424,12 +411,9 @@ fn plain(n: usize, room: &mut [u8; 438], bytes: &[u8]) -> usize
 }
 
 fn least(a: usize, b: usize) -> usize
-    ensures { λ r. ⌜ (r ≤ a) × (r ≤ b) ⌝ }
+    ensures { λ r. ⌜ r ≡ min a b ⌝ }
 {
-    if a < b {
-        return a;
-    }
-    b
+    if a < b { a } else { b }
 }
 
 pub fn is_answered(answer: Answer) -> bool

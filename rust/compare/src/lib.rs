@@ -1,5 +1,5 @@
 //! The proved library held against the reference: what both sides' values are to
-//! each other, the collecting that is there only to be measured, and a clock.
+//! each other, the collecting that is there only to be measured, and clocks.
 
 pub mod clock;
 pub mod messages;

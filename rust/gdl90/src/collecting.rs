@@ -27,9 +27,10 @@ use crate::Message;
 /// assert_eq!(*message, [2, 0, 1]);
 /// # Ok::<(), gdl90::Error>(())
 /// ```
+///
+/// It is aligned to its own size and so within one page of memory: its room is
+/// cleared at each flag, which takes longer over a page's border.
 #[derive(Clone)]
-// In one page of memory: the room is cleared at each flag, which takes three
-// times as long where it crosses into the next page.
 #[repr(align(1024))]
 pub struct Collector {
     control: FeedControl,
@@ -37,7 +38,10 @@ pub struct Collector {
     message: [u8; MESSAGE_MAX],
 }
 
-const _: () = assert!(std::mem::size_of::<Collector>() == std::mem::align_of::<Collector>());
+const _: () = assert!(
+    std::mem::size_of::<Collector>() == std::mem::align_of::<Collector>(),
+    "a collector may cross a page's border"
+);
 
 /// What [`Collector::feed`] did.
 #[derive(Clone, Copy, Debug, PartialEq, Eq)]

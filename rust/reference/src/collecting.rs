@@ -80,11 +80,21 @@ impl Collector {
                 return (taken, Answer::None);
             }
             taken += 1;
-            match (self.phase, self.count) {
-                (Phase::LeadIn, _) | (Phase::Clear, 0) => self.phase = Phase::Clear,
-                _ => return (taken, self.close()),
+            // Asked beforehand: an answer that is lent cannot be looked at and let go.
+            if self.is_quiet() {
+                self.phase = Phase::Clear;
+            } else {
+                return (taken, self.close());
             }
         }
+    }
+
+    /// Whether a flag is not answered.
+    fn is_quiet(&self) -> bool {
+        matches!(
+            (self.phase, self.count),
+            (Phase::LeadIn, _) | (Phase::Clear, 0)
+        )
     }
 
     /// Takes the bytes before the first flag, or all where there is none: how
@@ -344,6 +354,7 @@ mod tests {
             while at < stream.len() {
                 let end = stream.len().min(at + random.below(600));
                 let (taken, answer) = collector.feed(&stream[at..end]);
+                assert!(answer != Answer::None || taken == end - at);
                 at += taken;
                 kept.extend(Kept::new(at.saturating_sub(1), answer));
             }

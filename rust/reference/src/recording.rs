@@ -1,7 +1,7 @@
 //! Made-up recordings of a stream, whole frames and damaged ones, the same for
 //! the same seed.
 
-use crate::collecting::ROOM;
+use crate::collecting::{answers, ROOM};
 use crate::fcs::check_sequence;
 use crate::framing::{frame, stuff, Framed, ESCAPE, FLAG, MESSAGE_MAX};
 use crate::messages::{HEARTBEAT_ID, LENGTHS, OWNSHIP_ID, TRAFFIC_ID, UPLINK_ID};
@@ -12,9 +12,6 @@ const SPEED_LENGTH: usize = 1 << 20;
 
 /// Makes what is sent in place of the message's frame.
 type Damage = fn(&mut Xorshift, &[u8]) -> Vec<u8>;
-
-/// So many of them, the first, leave no whole frame.
-const FAULTS: usize = 10;
 
 const DAMAGES: [Damage; 14] = [
     flipped_message,
@@ -96,32 +93,45 @@ pub fn readable_recording(length: usize) -> Vec<u8> {
     traffic_of(length, samples::whole)
 }
 
-/// Streams of one MiB that are no usual traffic, with a name for each.
-pub fn shapes() -> [(&'static str, Vec<u8>); 6] {
-    let mut random = Xorshift::new(18);
-    [
-        ("flags", vec![FLAG; SPEED_LENGTH]),
-        ("escapes", vec![ESCAPE; SPEED_LENGTH]),
-        ("lead_in", without_flags(&mut random, SPEED_LENGTH)),
-        ("noise", random.message(SPEED_LENGTH)),
-        ("escaped", repeated(|| framed(&[FLAG; MESSAGE_MAX]))),
-        ("faults", repeated(|| faulty(&mut random))),
-    ]
-}
+/// Streams of one MiB that are no usual traffic, by name.
+pub const SHAPES: [(&str, fn() -> Vec<u8>); 7] = [
+    ("flags", || vec![FLAG; SPEED_LENGTH]),
+    ("escapes", || repeated(vec![FLAG], |_| vec![ESCAPE; 1000])),
+    ("lead_in", || {
+        repeated(vec![], |random| without_flags(random, 1000))
+    }),
+    ("noise", || Xorshift::new(18).message(SPEED_LENGTH)),
+    ("escaped", || {
+        repeated(vec![], |_| framed(&[FLAG; MESSAGE_MAX]))
+    }),
+    ("bad_escapes", || {
+        repeated(vec![], |_| vec![FLAG, ESCAPE, 0])
+    }),
+    ("faults", || repeated(vec![], faulty)),
+];
 
-fn repeated(mut part: impl FnMut() -> Vec<u8>) -> Vec<u8> {
-    let mut out = Vec::new();
+fn repeated(mut out: Vec<u8>, part: impl Fn(&mut Xorshift) -> Vec<u8>) -> Vec<u8> {
+    let mut random = Xorshift::new(19);
     while out.len() < SPEED_LENGTH {
-        out.extend(part());
+        out.extend(part(&mut random));
     }
     out.truncate(SPEED_LENGTH);
     out
 }
 
-/// A frame that is refused.
+/// What is sent in place of a frame, and refused where a flag follows.
 fn faulty(random: &mut Xorshift) -> Vec<u8> {
-    let message = any_message(random);
-    DAMAGES[random.below(FAULTS)](random, &message)
+    loop {
+        let message = any_message(random);
+        let part = damaged(random, &message);
+        let kept = answers(&[&part[..], &[FLAG]].concat());
+        if part.first() == Some(&FLAG)
+            && !kept.is_empty()
+            && kept.iter().all(|kept| kept.number != 0)
+        {
+            return part;
+        }
+    }
 }
 
 /// Makes a message of the kind with this id.
@@ -296,7 +306,7 @@ fn without_flags(random: &mut Xorshift, length: usize) -> Vec<u8> {
 #[cfg(test)]
 mod tests {
     use super::*;
-    use crate::collecting::{answers, Kept};
+    use crate::collecting::Kept;
     use crate::messages::read;
 
     fn count(kept: &[Kept], wanted: impl Fn(&Kept) -> bool) -> usize {
@@ -342,13 +352,15 @@ mod tests {
 
     #[test]
     fn shapes_are_as_described() {
-        for (name, stream) in shapes() {
+        for (name, stream) in SHAPES.map(|(name, stream)| (name, stream())) {
+            assert_eq!(stream.len(), SPEED_LENGTH, "{name}");
             let kept = answers(&stream);
             let whole = count(&kept, |kept| kept.number == 0);
             match name {
-                "escaped" => assert_eq!(whole, kept.len()),
-                "faults" => assert!(kept.len() > 5_000 && whole < kept.len() / 20),
                 "noise" => assert!(kept.len() > 3_000 && whole < 10),
+                "escaped" => assert!(kept.len() > 1_000 && whole == kept.len()),
+                "bad_escapes" => assert!(kept.len() > 300_000 && whole == 0),
+                "faults" => assert!(kept.len() > 5_000 && whole == 0),
                 _ => assert_eq!(kept, [], "{name}"),
             }
         }

@@ -5,7 +5,7 @@ use Prim.Native.Nat.{_-_}
 use lib.ListN.{length}
 use Rattle.collecting.specs.Step.{held}
 use Rattle.collecting.specs.Stretch.{Passed}
-use Rattle.collecting.proofs.Filling.{unflagged-end, unflagged-flag, unflagged-more, passed-none, rest, passed-part, passed-all}
+use Rattle.collecting.proofs.Filling.{unflagged-end, unflagged-flag, unflagged-more, unflagged-most, passed-none, rest, passed-part, passed-all}
 use borrow.Author.Needs.{needs}
 use Rattle.collecting.proofs.fill_within.Statement.{statement}
 use Rattle.collecting.proofs.fill_within.Tie as tie
@@ -30,12 +30,15 @@ through-stretch-requires c κs =
     let bs = l .before .before .args .bytes .now in
     (l .loop .inv .within, rw (rest bs (l .loop .n)) (omega (arith, unflagged-more bs (l .loop .n) (omega arith) (c .before .before .if1 .left))))
 
--- the bytes taken so far, with those of this turn
 add-n : tie.Need-add-n Inv-loop μ-loop
-add-n c = omega (arith, passed-part (c .before .before .before .before .before .before .before .loop .inv) (c .before .through-stretch .ensures .0) .most)
+add-n c =
+    let l = c .before .before .before .before .before .before .before in
+    omega (arith, passed-part (l .loop .inv) (c .before .through-stretch .ensures .0) .before, unflagged-most (l .before .before .args .bytes .now))
 
 loop-less : tie.Need-loop-less Inv-loop μ-loop
-loop-less c = omega (arith, passed-part (c .before .before .before .before .before .before .before .before .loop .inv) (c .before .before .through-stretch .ensures .0) .most)
+loop-less c =
+    let l = c .before .before .before .before .before .before .before .before in
+    omega (arith, passed-part (l .loop .inv) (c .before .before .through-stretch .ensures .0) .before, unflagged-most (l .before .before .args .bytes .now))
 
 loop-again : tie.Need-loop-again Inv-loop μ-loop
 loop-again c = passed-part (c .before .before .before .before .before .before .before .before .loop .inv) (c .before .before .through-stretch .ensures .0)

@@ -1,29 +1,16 @@
 -- `collecting::stretch` meets its contract, by the phase.
 -- Assumes nothing.
-use mathlib.Core.Path.{_≡_, refl, sym, ap, subst}
-use mathlib.Core.List.{[], _∷_}
+use mathlib.Core.Path.{sym, ap, subst}
 use Prim.Native.Nat.{ℕ, _+_}
-use denote.Enum.Declared.{tagOf}
-use types.Run.{OneOf, miss}
 use Rattle.collecting.specs.declared.Phase.{Phase}
-use Rattle.collecting.specs.declared.Phase.the-variants.{LeadIn, Open, Escape, BadEscape, TooLong}
-use Rattle.collecting.proofs.Phase as phase
 use Rattle.collecting.specs.declared.Collector.{Collector}
-use Rattle.collecting.specs.Step.{held, turned, inside}
+use Rattle.collecting.specs.Step.{held, turned}
 use Rattle.collecting.specs.Stretch.{opened, Passed}
+use Rattle.collecting.proofs.Cases.{stays}
 use Rattle.collecting.proofs.Filling.{passed-none, passed-stuck}
 use borrow.Author.Needs.{needs}
 use Rattle.collecting.proofs.stretch.Statement.{statement}
 use Rattle.collecting.proofs.stretch.Tie as tie
-
--- the phases of the last arm
-stays : (p : Phase) → OneOf (0 ∷ 3 ∷ 4 ∷ []) (tagOf phase.the-type p) → (c : Collector) (b : ℕ) → inside p c b ≡ c
-unfolding inside
-stays LeadIn k c b = refl
-stays Open k c b = absurd (miss (0 ∷ 3 ∷ 4 ∷ []) 1 tt k)
-stays Escape k c b = absurd (miss (0 ∷ 3 ∷ 4 ∷ []) 2 tt k)
-stays BadEscape k c b = refl
-stays TooLong k c b = refl
 
 returns : tie.Need-returns
 returns c =

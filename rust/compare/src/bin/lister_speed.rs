@@ -1,5 +1,6 @@
-//! Speed and peak memory of the proved lister against the reference's, as two
-//! programs on one recording of 64 MiB, and whether their listings are the same.
+//! Speed, by processor time, and peak memory of the proved lister against the
+//! reference's, as two programs on one recording of 64 MiB, and whether their
+//! listings are the same.
 //!
 //! Both have to be built: `rt check lister`, and `cargo build --release` of the
 //! reference's `lister` next to this program.
@@ -9,8 +10,8 @@ use std::fs::{self, File};
 use std::io::{Read, Write};
 use std::path::{Path, PathBuf};
 use std::process::{Child, Command, Stdio};
-use std::time::Instant;
 
+use compare::clock;
 use reference::recording::readable_recording;
 
 const LENGTH: usize = 64 << 20;
@@ -82,9 +83,9 @@ fn sorted_rounds(programs: &[PathBuf; 2], recording: &Path) -> Result<[Vec<f64>;
 fn time(program: &Path, recording: &Path) -> Result<f64> {
     let mut command = Command::new(program);
     command.stdin(File::open(recording)?).stdout(Stdio::null());
-    let start = Instant::now();
+    let start = clock::of_children();
     let status = command.status()?;
-    let taken = start.elapsed().as_nanos() as f64;
+    let taken = (clock::of_children() - start).as_nanos() as f64;
     if !status.success() {
         return Err(format!("{}: {status}", program.display()).into());
     }

@@ -9,7 +9,7 @@
 
 use std::hint::black_box;
 
-use compare::clock::processor_time;
+use compare::clock;
 use gdl90::{raw, Message};
 use reference::collecting::Answer;
 use reference::framing::{Framed, MESSAGE_MAX};
@@ -18,7 +18,7 @@ use reference::messages::{
     UPLINK_ID, WRONG_LENGTH,
 };
 use reference::payloads;
-use reference::recording::{shapes, speed_recording};
+use reference::recording::{speed_recording, SHAPES};
 use reference::samples::whole;
 use reference::uplink::Frame;
 use reference::xorshift::Xorshift;
@@ -40,7 +40,7 @@ const ADDED: [u8; 40] = [0xD5; 40];
 fn main() {
     if let Some(wanted) = std::env::args().nth(1) {
         let stream = streams().find(|(name, _)| *name == wanted);
-        let (_, stream) = stream.expect("the name of a stream");
+        let stream = stream.expect("the name of a stream").1();
         for _ in 0..PROFILED_PASSES {
             black_box(rattle_collect(black_box(&stream)));
         }
@@ -59,13 +59,15 @@ fn main() {
     let others: Vec<u8> = ids.into_iter().filter(|&id| id != UPLINK_ID).collect();
     measure_typed(&whole_set(&mut random, &others));
     for (name, stream) in streams() {
-        measure_collect(name, &stream);
+        measure_collect(name, &stream());
     }
     measure_by_value(&speed_recording());
 }
 
-fn streams() -> impl Iterator<Item = (&'static str, Vec<u8>)> {
-    std::iter::once(("recording", speed_recording())).chain(shapes())
+type Stream = (&'static str, fn() -> Vec<u8>);
+
+fn streams() -> impl Iterator<Item = Stream> {
+    std::iter::once::<Stream>(("recording", speed_recording)).chain(SHAPES)
 }
 
 fn message_set(random: &mut Xorshift, eighths: usize) -> Vec<Vec<u8>> {
@@ -414,9 +416,9 @@ fn medians<const SIDES: usize>(rounds: usize, sides: [&mut dyn FnMut(); SIDES]) 
     for round in 0..WARM_UP + rounds {
         for turn in 0..SIDES {
             let side = (round + turn) % SIDES;
-            let start = processor_time();
+            let start = clock::of_thread();
             sides[side]();
-            let elapsed = (processor_time() - start).as_nanos() as f64;
+            let elapsed = (clock::of_thread() - start).as_nanos() as f64;
             if round >= WARM_UP {
                 taken[side].push(elapsed);
             }
