@@ -4,7 +4,7 @@
    A pointer and a length stand for bytes; the pointer is never null, also where the length is 0, and memory to be written overlaps
    no other argument. A bool holds 0 or 1.
 
-   `number` in an answer is that of the scope paper's table:
+   `number` in an answer is one of these (RULES 'Numbers', in docs/RULES.md):
      0  done                        5  check sequence             10  message not of 1 to 436 bytes
      1  bad escape                  6  empty, or another id       11  a frame runs past the application data
      2  escape before the flag      7  length                     12  a frame's length over 422

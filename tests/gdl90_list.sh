@@ -51,7 +51,7 @@ listings() {
     printf '\x55\x7E\x00\x81\x41\xDB\xD0\x08\x02\xB3\x8B\x7E\x7E\x00\x81\x41\xDB\xD0\x08\x02\xB3\x8A\x7E\x07\x7D' > "$tmp/example"
     printf 'n at ans id len\n1 2 0 0 7\n2 13 5 - -\nend 1 2\n' > "$tmp/example.txt"
     run "$list" "$tmp/example"
-    check 'the example of 01' 0 "$tmp/example.txt" ''
+    check 'the example of docs/RULES.md' 0 "$tmp/example.txt" ''
     printf 'n at ans id len\nend 0 0\n' > "$tmp/nothing.txt"
     run "$list" /dev/null
     check 'no byte' 0 "$tmp/nothing.txt" ''

@@ -1,4 +1,4 @@
-/* Feet are worked out only from the matching unit (01). As it stands this compiles; with either macro defined a function is given
+/* Feet are worked out only from the matching unit (RULES 'Units'). As it stands this compiles; with either macro defined a function is given
    another unit's altitude, and a C or C++ compiler has to refuse it. */
 #include "gdl90.h"
 

@@ -1,4 +1,4 @@
-/* The check sequence, framing and collecting (01 'Flags, escapes, check sequence'; 001 §2.2). */
+/* The check sequence, framing and collecting (RULES 'Check sequence', 'Framing', 'Collecting'; 001 §2.2). */
 #include "check.h"
 
 static const uint8_t HEARTBEAT[] = {0x00, 0x81, 0x41, 0xDB, 0xD0, 0x08, 0x02}; /* 001 §2.2.4 */
@@ -17,7 +17,7 @@ static void sequence_is(const uint8_t *message, size_t length, uint16_t want)
 static void check_sequences(void)
 {
     static const uint8_t x16[] = {0x01, 0x00, 0x00}, x23[] = {0x80, 0x00, 0x00};
-    /* the 16 words of 02 (vi), which are the first 16 of 001's table */
+    /* the 16 words of RULES 'Check sequence', which are the first 16 of 001's table */
     static const uint16_t words[16] = {0x0000, 0x1021, 0x2042, 0x3063, 0x4084, 0x50A5, 0x60C6, 0x70E7,
                                        0x8108, 0x9129, 0xA14A, 0xB16B, 0xC18C, 0xD1AD, 0xE1CE, 0xF1EF};
     uint8_t two[2] = {0}, three[3] = {0}, far[1000] = {0};
@@ -34,7 +34,7 @@ static void check_sequences(void)
         three[0] = (uint8_t)b;
         CASE(sequence_is(three, sizeof three, words[b])); /* word i is the sequence of the message i, 00, 00 */
     }
-    CASE(sequence_is(HEARTBEAT, sizeof HEARTBEAT, 0x8BB3)); /* 01's value 1 */
+    CASE(sequence_is(HEARTBEAT, sizeof HEARTBEAT, 0x8BB3)); /* value 1 of RULES 'Values' */
     CASE(sequence_is(x16, sizeof x16, 0x1021));             /* and 2 */
     CASE(sequence_is(x23, sizeof x23, 0x9188));             /* 001's table at 0x80 */
     /* leading zeros change no remainder: longer than any message, and not refused */
@@ -78,7 +78,7 @@ static void check_framing(void)
     size_t i;
 
     CASE(frame_is(HEARTBEAT, 7, HEARTBEAT_FRAME, 11));
-    CASE(frame_is(flag, 1, flag_frame, 7));  /* 01's value 3 */
+    CASE(frame_is(flag, 1, flag_frame, 7));  /* value 3 of RULES 'Values' */
     CASE(frame_is(flag, 2, both_frame, 10)); /* and 4 */
 
     /* the longest message at its shortest: zeros have sequence 0 */
@@ -160,7 +160,7 @@ static void goes_on(struct stream *s, const uint8_t *bytes, size_t length, size_
     CHECK_BYTES(s->message.bytes, s->message_want, 436);
 }
 
-/* Feeds bytes of which the one before `taken` closes a frame; the state is then that of one flag just seen, its room zero (01). */
+/* Feeds bytes of which the one before `taken` closes a frame; the state is then that of one flag just seen, its room zero. */
 static void closes(struct stream *s, const uint8_t *bytes, size_t length, size_t taken, uint8_t number, const uint8_t *message,
                    size_t message_len)
 {
@@ -197,7 +197,7 @@ static void check_every_split(void)
     }
 }
 
-/* 01's value 4, byte by byte: phase 1 between flags, 2 behind 0x7D; an escaped flag is no flag. */
+/* Value 4 of RULES 'Values', byte by byte: phase 1 between flags, 2 behind 0x7D; an escaped flag is no flag. */
 static void check_byte_by_byte(void)
 {
     static const uint8_t frame[] = {0x7E, 0x7D, 0x5E, 0x7D, 0x5D, 0x7D, 0x5D, 0x7D, 0x5E, 0x7E};
@@ -215,7 +215,7 @@ static void check_byte_by_byte(void)
     end(&s);
 }
 
-/* Lead-in, two flags in a row, one flag shared, each number, and an end without a flag; 01's values 5 and 6. */
+/* Lead-in, two flags in a row, one flag shared, each number, and an end without a flag; values 5 and 6 of RULES 'Values'. */
 static const uint8_t STREAM[] = {
     0x55, 0x7D, 0x00, 0x7E, 0x00, 0x81, 0x41, 0xDB, 0xD0, 0x08, 0x02, 0xB3, 0x8B, 0x7E,       /* 0, at 13 */
     0x7E, 0x00, 0x81, 0x41, 0xDB, 0xD0, 0x08, 0x02, 0xB3, 0x8A, 0x7E,                         /* 5, at 24 */
@@ -304,7 +304,7 @@ static void check_skipping(void)
     goes_on(&s, zeros, 439, 0, 4);
     closes(&s, flag, 1, 1, 3, NULL, 0);
 
-    /* a pair that is no escape yields no 439th byte (01) */
+    /* a pair that is no escape yields no 439th byte */
     for (i = 0; i < 3; i++) {
         goes_on(&s, zeros, 438, 438, 1);
         if (i == 0) {

@@ -1,4 +1,4 @@
-/* Every function of gdl90.h, called from C: values that the scope paper (01) and the specification (001) give, each refusal, the
+/* Every function of gdl90.h, called from C: values that docs/RULES.md and the specification (001) give, each refusal, the
    memory around what is lent, and each field of each struct. Nothing that is expected here comes from the library.
    All .c files of this folder make one program:
      cd tests/entry_points && cc -std=c99 -I../../include *.c ../../target/staticlib/libgdl90.a -o ../../target/entry_points */
@@ -249,7 +249,7 @@ static int32_t terrain_feet(int16_t feet)
     return gdl90_terrain_feet(height);
 }
 
-/* 01's value 9, 001 §3.5.1.4, §3.7 and §3.8, and the ends of each width: feet are for every value, codes of marks too. */
+/* Value 9 of RULES 'Values', 001 §3.5.1.4, §3.7 and §3.8, and the ends of each width: feet are for every value, codes of marks too. */
 static void check_feet(void)
 {
     CHECK(pressure_feet(0), -1000);
@@ -280,7 +280,7 @@ static void degrees_are(int32_t latitude, int32_t longitude, uint8_t number, dou
     CHECK_DOUBLE(at.longitude, east);
 }
 
-/* Exactly 180n / 2^23, so that == holds (01); the examples of 001 §3.5.1.3 and the position of §3.5.2. */
+/* Exactly 180n / 2^23, so that == holds (RULES 'Degrees'); the examples of 001 §3.5.1.3 and the position of §3.5.2. */
 static void check_degrees(void)
 {
     CASE(degrees_are(0, 0, 0, 0.0, 0.0));
@@ -289,7 +289,7 @@ static void check_degrees(void)
     CASE(degrees_are(0x400000, -0x400000, 0, 90.0, -90.0));
     CASE(degrees_are(-0x400000, 0x7FFFFF, 0, -90.0, 179.999978542327880859375));
     CASE(degrees_are(0x1FEF15, -0x577688, 0, 376707780.0 / 8388608.0, -1031755680.0 / 8388608.0));
-    /* the range of a latitude is not checked here (01) */
+    /* the range of a latitude is not checked here */
     CASE(degrees_are(-8388608, 8388607, 0, -180.0, 179.999978542327880859375));
     CASE(degrees_are(8388607, -8388608, 0, 179.999978542327880859375, -180.0));
     CASE(degrees_are(8388608, 1, 8, 0.0, 0.0));

@@ -1,4 +1,4 @@
-/* The kind of a message, and seven kinds read and written (01 'Messages and their lengths'; 001 §3). */
+/* The kind of a message, and seven kinds read and written (RULES 'Messages'; 001 §3). */
 #include "kinds.h"
 
 /* ---- kinds, 001 Table 2: the id alone decides, at every kind's length and beyond */
@@ -52,9 +52,9 @@ static void check_heartbeat(void)
 {
     union value v;
 
-    v = heartbeat(0x81, 0x41, 53467, 1, 0, 2); /* 01's value 1 */
+    v = heartbeat(0x81, 0x41, 53467, 1, 0, 2); /* value 1 of RULES 'Values' */
     CASE(both_ways(&HEARTBEAT, "00 81 41 DBD0 0802", &v));
-    v = heartbeat(0x01, 0x00, 86399, 4, 0, 567); /* 01's value 7; the counts of 001 §3.1.4 */
+    v = heartbeat(0x01, 0x00, 86399, 4, 0, 567); /* value 7 of RULES 'Values'; the counts of 001 §3.1.4 */
     CASE(both_ways(&HEARTBEAT, "00 01 80 7F51 2237", &v));
     v = heartbeat(0xA1, 0x12, 0x12345, 0x16, 1, 0x2B7);
     CASE(both_ways(&HEARTBEAT, "00 A1 92 4523 B6B7", &v));
@@ -220,7 +220,7 @@ static void check_geometric(void)
     CASE(both_ways(&GEOMETRIC, "0B 00C8 8032", &v));
     v = geometric(0, true, 1, 0);
     CASE(both_ways(&GEOMETRIC, "0B 0000 FFFF", &v));
-    v = geometric(32767, false, 2, 0); /* over is 0x7EEE, and 0x7FFE is 32,766 metres (01) */
+    v = geometric(32767, false, 2, 0); /* over is 0x7EEE, and 0x7FFE is 32,766 metres (RULES 'Geometric altitude') */
     CASE(both_ways(&GEOMETRIC, "0B 7FFF 7EEE", &v));
     v = geometric(-32768, false, 0, 32766);
     CASE(both_ways(&GEOMETRIC, "0B 8000 7FFE", &v));

@@ -1,7 +1,7 @@
-/* Ownship and traffic reports, read and written (01 'Messages and their lengths'; 001 §3.4 and §3.5). */
+/* Ownship and traffic reports, read and written (RULES 'Reports'; 001 §3.4 and §3.5). */
 #include "kinds.h"
 
-/* N825V, the example of 001 §3.5.2 and 01's value 11, as half bytes, and where each field stands in them. */
+/* N825V, the example of 001 §3.5.2 and value 11 of RULES 'Values', as half bytes, and where each field stands in them. */
 static const char N825V[] = "1400AB45491FEF15A889780F09A907B00120014E3832355620202000";
 enum {
     ALERT = 2, ADDRESS_TYPE = 3, ADDRESS = 4, LATITUDE = 10, LONGITUDE = 16, ALTITUDE = 22, MISCELLANEOUS = 25, INTEGRITY = 26,
@@ -100,7 +100,7 @@ static void check_whole_reports(void)
     v.report.climb = -0x1B7;
     v.report.track = 0x5E;
     v.report.emitter = 0x27;
-    memcpy(v.report.call_sign, "\x81\x92\xA3\x00\xC5\xD6\xE7\xF8", 8); /* any bytes (01) */
+    memcpy(v.report.call_sign, "\x81\x92\xA3\x00\xC5\xD6\xE7\xF8", 8); /* any bytes */
     v.report.priority = 11;
     v.report.spare = 12;
     IS(ALERT, "DEA1B2C32B3C4D9876547897" "86567E495E278192A300C5D6E7F8BC");
@@ -131,7 +131,7 @@ static void check_position(void)
     REPORT(longitude, -0x800001), UNWRITTEN();
     REPORT(longitude, INT32_MAX), UNWRITTEN();
 
-    /* none exactly if latitude, longitude and integrity are all 0 (01, 001 §3.5.1.3) */
+    /* none exactly if latitude, longitude and integrity are all 0 (001 §3.5.1.3) */
     REPORT_2(latitude, 0, longitude, 0), v.report.integrity = 0, UNWRITTEN();
     v.report.position_mark = 1;
     IS(LATITUDE, "0000000000000F090");
@@ -169,7 +169,7 @@ static void check_altitude_and_speed(void)
     REPORT(speed_mark, 255), UNWRITTEN();
 }
 
-/* All 4,096 codes: -509 to 509, three marks, every other refused (01; 001 §3.5.1.8). */
+/* All 4,096 codes: -509 to 509, three marks, every other refused (001 §3.5.1.8). */
 static void check_climb(void)
 {
     union value v;
@@ -189,7 +189,7 @@ static void check_climb(void)
         if (number || mark != 0)
             report_written_as(CLIMB, digits, &v);
     }
-    REPORT(climb, 509), IS(CLIMB, "1FD"); /* 01's value 8 */
+    REPORT(climb, 509), IS(CLIMB, "1FD"); /* value 8 of RULES 'Values' */
     REPORT(climb, -509), IS(CLIMB, "E03");
     REPORT(climb, -1), IS(CLIMB, "FFF");
     REPORT(climb, 0), IS(CLIMB, "000");
@@ -210,7 +210,7 @@ static void check_climb(void)
     REPORT(climb_mark, 255), UNWRITTEN();
 }
 
-/* The fields of four bits, of bits (001 Table 9), and of any value (01). */
+/* The fields of four bits, of bits (001 Table 9), and of any value. */
 static void check_small_fields(void)
 {
     static const char *const beyond[] = {"C", "D", "E", "F"};

@@ -1,4 +1,4 @@
-/* The information frames of uplink payloads: listed, found by number, added (01 'Uplink payloads'; 001 §4 and §5). */
+/* The information frames of uplink payloads: listed, found by number, added (RULES 'Uplink payloads', 'Adding a frame'; 001 §4 and §5). */
 #include "check.h"
 
 /* Application data of 001 §5.1.4, first and second sample, and of §5.2.4, without the zeros that fill them up to 424 bytes. */
@@ -69,7 +69,7 @@ static void nth_is(const uint8_t *payload, size_t length, size_t n, uint8_t numb
     TAKE_BACK(input, payload, length);
 }
 
-/* Refused with this number whichever frame is asked for: one refused frame refuses the payload (01). */
+/* Refused with this number whichever frame is asked for: one refused frame refuses the payload. */
 static void refused(const uint8_t *payload, size_t length, uint8_t number)
 {
     list_is(payload, length, number, 0, 0);
@@ -137,7 +137,7 @@ static void check_headers(void)
     payload[6] = 0;
     CASE(lists(payload, 0, 0));
 
-    /* 01's value 10 */
+    /* value 10 of RULES 'Values' */
     make(payload, VALID, "9600");
     CASE(lists(payload, 1, 302));
     CASE(nth_is(payload, 432, 0, 0, 0, 0, 10, 300));
@@ -195,7 +195,7 @@ static void add(uint8_t *payload, size_t length, uint8_t type, const uint8_t *da
     TAKE_BACK(input, data, data_len);
 }
 
-/* The frame stands at the list's end, reserved bits 0, with zeros behind it; the valid bit is set, and all before stays (01). */
+/* The frame stands at the list's end, reserved bits 0, with zeros behind it; the valid bit is set, and all before stays. */
 static void check_adding(void)
 {
     uint8_t data[1000], payload[433], want[433];

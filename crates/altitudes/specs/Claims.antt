@@ -1,4 +1,4 @@
--- What is written and read is the same value, and what is read and written the same bytes.
+-- What is written and read is the same value, and what is read and written the same bytes (RULES 'Height above terrain', 'Geometric altitude').
 -- Assumes nothing.
 use mathlib.Core.Path.{_≡_}
 use Prim.Native.Nat.{ℕ, _<_}

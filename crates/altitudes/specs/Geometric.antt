@@ -1,5 +1,5 @@
--- Ownship geometric altitude (001 §3.8), id 11, five bytes: signed steps of 5 feet, high byte first; then a warning in bit 15 and a
--- figure of merit in metres in the other 15 bits; 0x7FFF is none.
+-- Ownship geometric altitude (001 §3.8, RULES 'Geometric altitude'), id 11, five bytes: signed steps of 5 feet, high byte first; then a
+-- warning in bit 15 and a figure of merit in metres in the other 15 bits; 0x7FFF is none.
 -- Assumes nothing.
 use Prim.Native.Nat.{ℕ, _+_, _*_, _/_, _%_}
 use mathlib.Core.Bool.{Bool, true, false, cond, not, _&&_}
@@ -17,7 +17,7 @@ use Rattle.message_types.specs.declared.Message.the-variants as kind
 use Rattle.message_types.specs.declared.Reading.{Reading}
 use Rattle.message_types.specs.declared.Reading.the-variants.{Message, Refused}
 
--- the mark of a merit over 32,766 metres (01)
+-- the mark of a merit over 32,766 metres
 abbrev pub overMerit : ℕ
 overMerit = 0x7EEE
 

@@ -1,4 +1,4 @@
--- Height above terrain (001 §3.7), id 9, three bytes: signed feet, high byte first; 0x8000 is none.
+-- Height above terrain (001 §3.7, RULES 'Height above terrain'), id 9, three bytes: signed feet, high byte first; 0x8000 is none.
 -- Assumes nothing.
 use Prim.Native.Nat.{ℕ, _+_, _*_, _/_, _%_}
 use mathlib.Core.Bool.{Bool, true, cond, not}
@@ -40,7 +40,7 @@ goodTerrain h = goodHeight (h .height)
 abbrev pub heightRefused : ℕ → HeightRead
 heightRefused k = record { number = k; height = record { height = Feet (record { feet = pos 0 }) } }
 
--- 01's number with the value, and the same as a message of whatever kind
+-- the number with the value, and the same as a message of whatever kind
 abbrev pub heightRead : List ℕ → HeightRead
 heightRead = reading 9 3 terrainIn goodTerrain (λ x. record { number = 0; height = x }) heightRefused
 

@@ -17,7 +17,7 @@ use message_types::Merit;
 use units::GeometricSteps;
 use units::TerrainFeet;
 
-// The mark of a merit over 32,766 metres (01).
+// The mark of a merit over 32,766 metres (RULES 'Geometric altitude').
 const OVER_MERIT: u16 = 0x7EEE;
 
 pub fn read_height(message: &[u8]) -> HeightRead

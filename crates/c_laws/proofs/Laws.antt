@@ -1,4 +1,4 @@
--- Demand 2 of 01 over the functions for C, from the laws of each kind and of its struct.
+-- Demand 2 (RULES 'Demands') over the functions for C, from the laws of each kind and of its struct.
 -- Assumes nothing.
 use mathlib.Core.Path.{_≡_, refl, ap, _∙_}
 use mathlib.Core.Bool.{Bool, true, false, cond, _&&_}

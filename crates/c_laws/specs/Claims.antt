@@ -1,4 +1,4 @@
--- Demand 2 of 01 over the functions that C and Rust call, and what they do with an unknown mark.
+-- Demand 2 (RULES 'Demands') over the functions that C and Rust call, and what they do with an unknown mark.
 -- Assumes nothing.
 use mathlib.Core.Path.{_≡_}
 use Prim.Native.Nat.{ℕ, _≤_, _<_}

@@ -1,4 +1,4 @@
--- The structs for C as reading gives them: beside a mark a field is 0. In writing it is not looked at.
+-- The structs for C as reading gives them (RULES 'Structs for C'): beside a mark a field is 0. In writing it is not looked at.
 -- Assumes nothing.
 use Prim.Native.Nat.{ℕ}
 use mathlib.Core.Bool.{cond}

@@ -1,6 +1,6 @@
--- A report as a struct of numbers. A field that can have a mark has a number for it beside: 0, the field is a number; 1, none; 2, over
--- (of a climb, above); 3, below. With a mark the field is 0, and it is not looked at on the way back. Any other number is no mark: the
--- way back then gives the field a number that writing refuses with 8.
+-- A report as a struct of numbers (RULES 'Structs for C'). A field that can have a mark has a number for it beside: 0, the field is a
+-- number; 1, none; 2, over (of a climb, above); 3, below. With a mark the field is 0, and it is not looked at on the way back. Any other
+-- number is no mark: the way back then gives the field a number that writing refuses with 8.
 -- Assumes nothing.
 use Prim.Native.Nat.{ℕ}
 use mathlib.Core.Bool.{cond}

@@ -1,4 +1,4 @@
--- What reading a message of one kind answers (01), the same for every kind: 6, then 7, then 8.
+-- What reading a message of one kind answers (RULES 'Numbers', 'Messages'), the same for every kind: 6, then 7, then 8.
 -- Assumes nothing.
 use Prim.Native.Nat.{ℕ}
 use mathlib.Core.Bool.{Bool, cond}

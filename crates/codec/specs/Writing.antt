@@ -1,4 +1,4 @@
--- What writing a message answers (01), and what the lent output then holds.
+-- What writing a message answers (RULES 'Numbers', 'Messages'), and what the lent output then holds.
 -- Assumes nothing.
 use mathlib.Core.Path.{_≡_}
 use Prim.Native.Nat.{ℕ}
@@ -14,7 +14,7 @@ use Rattle.codec.specs.declared.Written.the-variants.{Bytes, Refused}
 unfoldable pub writing : Bool → List ℕ → ℕ → Written
 writing good bytes room = cond good (cond (leb (length bytes) room) (Bytes (length bytes)) (Refused 9)) (Refused 8)
 
--- 01's number, and the bytes written, for each case
+-- the number, and the bytes written, for each case
 abbrev pub writtenNumber : Written → ℕ
 writtenNumber (Bytes n) = 0
 writtenNumber (Refused k) = k

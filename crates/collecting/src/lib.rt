@@ -1,4 +1,4 @@
-// Collecting frames from a byte stream (001 §2.2.1; 01 'Flags, escapes, check sequence').
+// Collecting frames from a byte stream (001 §2.2.1; RULES 'Collecting').
 ghost use mathlib.Core.Path.{_≡_};
 ghost use mathlib.Core.List.{_++_};
 ghost use Prim.Native.Nat.{_+_, _-_, _*_, _≤_, _<_, min};
@@ -32,7 +32,7 @@ pub enum Answer {
     None,
     // 0, with a message of so many bytes
     Accepted(usize),
-    // 01's number, 1 to 5
+    // the number, 1 to 5
     Refused(u8),
 }
 

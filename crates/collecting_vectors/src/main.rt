@@ -1,5 +1,5 @@
 // Collects the recording on standard input, in one piece, byte by byte and in pieces of odd sizes, and
-// prints each answer: where its closing flag stands, 01's number, and the message. The recording and
+// prints each answer: where its closing flag stands, the number, and the message. The recording and
 // the text that is stored beside this program come from rust/reference.
 ghost use Prim.Native.Nat.{_+_, _≤_};
 ghost use lib.ListN.{length};

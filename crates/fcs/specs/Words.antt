@@ -1,4 +1,4 @@
--- The 16 words that the check sequence is worked out from, half a byte at a time (02 (vi)).
+-- The 16 words that the check sequence is worked out from, half a byte at a time (RULES 'Check sequence').
 -- Assumes nothing.
 use Prim.Native.Nat.{ℕ, _*_, _/_, _%_}
 use mathlib.Core.List.{[], _∷_}

@@ -1,4 +1,4 @@
-// The frame check sequence (001 §2.2.3), from the 16 words of 02 (vi).
+// The frame check sequence (001 §2.2.3), from 16 words (RULES 'Check sequence').
 ghost use mathlib.Core.Path.{_≡_};
 ghost use Prim.Native.Nat.{_%_};
 ghost use lib.ListN.{length, take};

@@ -1,4 +1,4 @@
--- The answers of the library, as C has them.
+-- What framing and collecting answer, as C has it (RULES 'Structs for C').
 -- Assumes nothing.
 use Prim.Native.Nat.{ℕ}
 use mathlib.Core.Bool.{cond}
@@ -14,7 +14,7 @@ use Rattle.gdl90.specs.declared.FrameAnswer.{FrameAnswer}
 use Rattle.gdl90.specs.declared.FeedControl.{FeedControl}
 use Rattle.gdl90.specs.declared.FeedAnswer.{FeedAnswer}
 
--- 01's number, and the bytes written, 0 with a refusal
+-- the number, and the bytes written, 0 with a refusal
 abbrev pub frameAnswer : Framed → FrameAnswer
 frameAnswer f = record { number = framedNumber f; length = framedSize f }
 

@@ -1,4 +1,4 @@
--- The answer in degrees, as C has it: 01's number, and the values, 0 with a refusal.
+-- The answer in degrees, as C has it (RULES 'Structs for C'): the number, and the values, 0 with a refusal.
 -- Assumes nothing.
 use mathlib.Core.Path.{_≡_}
 use lib.IntN.{ℤ}

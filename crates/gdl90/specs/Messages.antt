@@ -1,4 +1,4 @@
--- What reading and writing one kind answer: 01's number, and the struct or the length, which are zero with a refusal.
+-- What reading and writing one kind answer, as C has it (RULES 'Structs for C'): the number, and the struct or the length, which are zero with a refusal.
 -- Assumes nothing.
 use mathlib.Core.Path.{_≡_}
 use Prim.Native.Nat.{ℕ}

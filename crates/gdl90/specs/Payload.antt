@@ -1,4 +1,4 @@
--- The answers on an uplink payload's information frames, as C has them: 01's number, and the values, 0 with a refusal.
+-- The answers on an uplink payload's information frames, as C has them (RULES 'Structs for C'): the number, and the values, 0 with a refusal.
 -- Assumes nothing.
 use Rattle.uplink.specs.declared.FrameList.{FrameList}
 use Rattle.uplink.specs.declared.Found.{Found}

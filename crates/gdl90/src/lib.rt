@@ -64,7 +64,7 @@ pub extern "C" fn gdl90_check_sequence(message: &[u8]) -> u16
     fcs::check_sequence(message)
 }
 
-// 01's number, and how many bytes were written, 0 with a refusal.
+// The number, and how many bytes were written, 0 with a refusal.
 #[repr(C)]
 pub struct FrameAnswer {
     pub number: u8,
@@ -104,7 +104,7 @@ pub struct FeedAnswer {
     // how many bytes were taken
     pub taken: usize,
     pub answered: bool,
-    // 01's number, where answered
+    // the number, where answered
     pub number: u8,
     // the message's, with number 0
     pub length: usize,
@@ -211,7 +211,7 @@ fn message_length(answer: Answer) -> usize
     }
 }
 
-// 01's number, 6 where the message is of no kind; and the kind's id, which is the first byte.
+// The number, 6 where the message is of no kind; and the kind's id, which is the first byte.
 #[repr(C)]
 pub struct KindAnswer {
     pub number: u8,
@@ -248,7 +248,7 @@ fn kind_number(kind: Kind) -> u8
     }
 }
 
-// A message of one kind: 01's number, 6 also for another kind's id; the struct, all zero with a refusal.
+// A message of one kind: the number, 6 also for another kind's id; the struct, all zero with a refusal.
 #[no_mangle]
 pub extern "C" fn gdl90_read_heartbeat(message: &[u8]) -> HeartbeatRead
     ensures { λ r. ⌜ r ≡ heartbeatRead (now (message .entry)) ⌝ }
@@ -342,14 +342,14 @@ pub extern "C" fn gdl90_read_long(message: &[u8]) -> FlatLongRead
     }
 }
 
-// 01's number, and how many bytes were written, 0 with a refusal.
+// The number, and how many bytes were written, 0 with a refusal.
 #[repr(C)]
 pub struct WriteAnswer {
     pub number: u8,
     pub length: usize,
 }
 
-// A struct's bytes to the start of the output: 01's number and how many; an uplink's payload is given beside it.
+// A struct's bytes to the start of the output: the number and how many; an uplink's payload is given beside it.
 #[no_mangle]
 pub extern "C" fn gdl90_write_heartbeat(heartbeat: Heartbeat, out: &mut [u8]) -> WriteAnswer
     ensures { λ r. ⌜ WritesHeartbeat heartbeat (now (out .entry)) r (now (out .exit)) ⌝ }
@@ -456,7 +456,7 @@ fn write_answer(written: Written) -> WriteAnswer
     }
 }
 
-// 01's number; how many information frames a payload has, and where their list ends, counted from the application data's start.
+// The number; how many information frames a payload has, and where their list ends, counted from the application data's start.
 #[repr(C)]
 pub struct ListAnswer {
     pub number: u8,
@@ -483,7 +483,7 @@ pub extern "C" fn gdl90_list(payload: &[u8]) -> ListAnswer
     }
 }
 
-// 01's number; a frame's type and reserved bits, where in the payload its data start, and how many bytes they are.
+// The number; a frame's type and reserved bits, where in the payload its data start, and how many bytes they are.
 #[repr(C)]
 pub struct NthAnswer {
     pub number: u8,
@@ -522,7 +522,7 @@ fn no_frame(number: u8) -> NthAnswer
     }
 }
 
-// `uplink::add`: 01's number, 0 where the frame was added.
+// `uplink::add`: the number, 0 where the frame was added.
 #[no_mangle]
 pub extern "C" fn gdl90_add(payload: &mut [u8], kind: u8, bytes: &[u8]) -> u8
     ensures answer { λ r. ⌜ r ≡ addedNumber (adding (payloadFrames (now (payload .entry))) kind (length (now (bytes .entry)))) ⌝ }
@@ -556,7 +556,7 @@ pub extern "C" fn gdl90_terrain_feet(height: TerrainFeet) -> i32
     height.feet()
 }
 
-// 01's number; two step numbers in degrees, 0 with a refusal.
+// The number; two step numbers in degrees, 0 with a refusal.
 #[repr(C)]
 pub struct DegreesAnswer {
     pub number: u8,

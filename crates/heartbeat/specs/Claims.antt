@@ -1,4 +1,4 @@
--- What is proved of the heartbeat, besides that the code reads and writes it.
+-- What is proved of the heartbeat (RULES 'Heartbeat', 'Messages'), besides that the code reads and writes it.
 -- Assumes nothing.
 use mathlib.Core.Path.{_≡_}
 use mathlib.Core.Bool.{true}

@@ -1,4 +1,4 @@
--- The heartbeat (001 §3.1): id 0, seven bytes.
+-- The heartbeat (001 §3.1, RULES 'Heartbeat'): id 0, seven bytes.
 -- Assumes nothing.
 use Prim.Native.Nat.{ℕ, _+_, _*_, _/_, _%_, _<_}
 use mathlib.Core.Bool.{Bool, _&&_}
@@ -12,7 +12,7 @@ use Rattle.message_types.specs.declared.Message.the-variants as kind
 use Rattle.message_types.specs.declared.Reading.{Reading}
 use Rattle.message_types.specs.declared.Reading.the-variants.{Message, Refused}
 
--- the last second of a day (01)
+-- the last second of a day
 abbrev pub lastSecond : ℕ
 lastSecond = 86399
 
@@ -59,7 +59,7 @@ heartbeatRefused k = record {
   heartbeat = record { status1 = 0; status2 = 0; time = 0; uplinks = 0; reserved = 0; «basic_and_long» = 0 };
 }
 
--- 01's number with the value, and the same as a message of whatever kind
+-- the number with the value, and the same as a message of whatever kind
 abbrev pub heartbeatRead : List ℕ → HeartbeatRead
 heartbeatRead = reading 0 7 heartbeatIn goodHeartbeat (λ h. record { number = 0; heartbeat = h }) heartbeatRefused
 

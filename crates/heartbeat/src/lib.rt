@@ -6,7 +6,7 @@ ghost use Rattle.heartbeat.specs.Heartbeat.{timeOf, countOf, heartbeatIn
 use message_types::Heartbeat;
 use message_types::HeartbeatRead;
 
-// The last second of a day (01).
+// The last second of a day (RULES 'Heartbeat').
 const LAST_SECOND: u32 = 86399;
 
 pub fn read_heartbeat(message: &[u8]) -> HeartbeatRead

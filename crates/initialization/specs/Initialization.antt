@@ -1,4 +1,4 @@
--- The initialization (001 §3.2): id 2, three bytes.
+-- The initialization (001 §3.2, RULES 'Initialization'): id 2, three bytes.
 -- Assumes nothing.
 use Prim.Native.Nat.{ℕ}
 use mathlib.Core.Bool.{Bool, true}

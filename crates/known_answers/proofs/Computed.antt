@@ -1,4 +1,4 @@
--- 01's values, each by computing.
+-- The values of RULES 'Values', each by computing.
 -- Assumes nothing.
 use mathlib.Core.Path.{refl}
 use Rattle.numbers.specs.Bits.{_⊕_, bit}

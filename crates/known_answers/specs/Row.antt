@@ -1,4 +1,4 @@
--- A row of 01's table of values: what the library's definitions work out, and what that is.
+-- A row of the table of values (RULES 'Values'): what the library's definitions work out, and what that is.
 -- Assumes nothing.
 use mathlib.Core.Path.{_≡_}
 use Prim.Native.Nat.{ℕ, _+_, _*_, _/_, _%_}
@@ -32,7 +32,7 @@ pub data Row : Type 0 where
   sequence : List ℕ → ℕ → Row
   -- a message and its frame
   frame : List ℕ → List ℕ → Row
-  -- a message whose frame is as short, or as long, as one of its length can be (01: n+4 to 2n+6 bytes)
+  -- a message whose frame is as short, or as long, as one of its length can be (RULES 'Framing': n+4 to 2n+6 bytes)
   shortest : List ℕ → Row
   longest : List ℕ → Row
   -- bytes between two flags, and the closing flag's answer

@@ -1,4 +1,4 @@
--- 01 'Values to hold against': the starred ones, 1 to 10, as one list, and the claim that every row holds. Then value 11, and
+-- RULES 'Values': the starred ones, 1 to 10, as one list, and the claim that every row holds. Then value 11, and
 -- examples of 001.
 -- Assumes nothing.
 use mathlib.Core.List.{List, [], _∷_}
@@ -11,40 +11,40 @@ use Rattle.known_answers.specs.Row.{Row, sequence, frame, shortest, long
 
 abbrev pub starred : List Row
 starred =
-    -- 1. Heartbeat 00 81 41 DB D0 08 02 has sequence 0x8BB3; time 53,467, uplinks 1, basic and long 2
+    -- 1: the heartbeat of 001 §2.2.4
     sequence (0x00 ∷ 0x81 ∷ 0x41 ∷ 0xDB ∷ 0xD0 ∷ 0x08 ∷ 0x02 ∷ []) 0x8BB3
     ∷ read (0x00 ∷ 0x81 ∷ 0x41 ∷ 0xDB ∷ 0xD0 ∷ 0x08 ∷ 0x02 ∷ []) (heartbeatWith 53467 1 2)
-    -- 2. 01 00 00 has 0x1021
+    -- 2
     ∷ sequence (0x01 ∷ 0x00 ∷ 0x00 ∷ []) 0x1021
-    -- 3. 7E is framed 7E 7D 5E 7D 5E 00 7E
+    -- 3
     ∷ frame (0x7E ∷ []) (0x7E ∷ 0x7D ∷ 0x5E ∷ 0x7D ∷ 0x5E ∷ 0x00 ∷ 0x7E ∷ [])
-    -- 4. 7E 7D is framed 7E 7D 5E 7D 5D 7D 5D 7D 5E 7E, ten bytes, the most for two
+    -- 4: 2n+6 bytes
     ∷ frame (0x7E ∷ 0x7D ∷ []) (0x7E ∷ 0x7D ∷ 0x5E ∷ 0x7D ∷ 0x5D ∷ 0x7D ∷ 0x5D ∷ 0x7D ∷ 0x5E ∷ 0x7E ∷ [])
     ∷ longest (0x7E ∷ 0x7D ∷ [])
-    -- 5. Between flags, 00 81 41 DB D0 08 03 B2 8B is accepted: two flips across the border cancel
+    -- 5: value 1 with a flip on each side of the border
     ∷ between (0x00 ∷ 0x81 ∷ 0x41 ∷ 0xDB ∷ 0xD0 ∷ 0x08 ∷ 0x03 ∷ 0xB2 ∷ 0x8B ∷ []) (message (0x00 ∷ 0x81 ∷ 0x41 ∷ 0xDB ∷ 0xD0 ∷ 0x08 ∷ 0x03 ∷ []))
-    -- 6. 7D alone: 2. 7D 00: 1. 07 07: 4. 07 07 00: collected, then 7
+    -- 6: what collecting answers, and what reading answers to the last
     ∷ between (0x7D ∷ []) (refused 2)
     ∷ between (0x7D ∷ 0x00 ∷ []) (refused 1)
     ∷ between (0x07 ∷ 0x07 ∷ []) (refused 4)
     ∷ between (0x07 ∷ 0x07 ∷ 0x00 ∷ []) (message (0x07 ∷ []))
     ∷ read (0x07 ∷ []) (Refused 7)
-    -- 7. Time 86,399 (status 2 bit 7 set, 7F 51) read; 86,400 (80 51) refused
+    -- 7: the last second of a day, and the next
     ∷ read (0x00 ∷ 0x81 ∷ 0xC1 ∷ 0x7F ∷ 0x51 ∷ 0x08 ∷ 0x02 ∷ []) (heartbeatWith 86399 1 2)
     ∷ read (0x00 ∷ 0x81 ∷ 0xC1 ∷ 0x80 ∷ 0x51 ∷ 0x08 ∷ 0x02 ∷ []) (Refused 8)
-    -- 8. Climb 0x1FD is 509, 0xE03 is -509, 0xFFF is -1; 0x1FF refused. `negsuc k` is -(k + 1)
+    -- 8: climbs; `negsuc k` is -(k + 1)
     ∷ read (trafficMessage 0x0F0 0x1FD) (trafficWith 240 (Steps (pos 509)))
     ∷ read (trafficMessage 0x0F0 0xE03) (trafficWith 240 (Steps (negsuc 508)))
     ∷ read (trafficMessage 0x0F0 0xFFF) (trafficWith 240 (Steps (negsuc 0)))
     ∷ read (trafficMessage 0x0F0 0x1FF) (Refused 8)
-    -- 9. Altitude 0x000 is -1,000 feet, 0x028 is 0, 0xFFE is 101,350
+    -- 9: altitudes, and their feet
     ∷ read (trafficMessage 0x000 0x001) (trafficWith 0 (Steps (pos 1)))
     ∷ feet 0 (negsuc 999)
     ∷ read (trafficMessage 0x028 0x001) (trafficWith 40 (Steps (pos 1)))
     ∷ feet 40 (pos 0)
     ∷ read (trafficMessage 0xFFE 0x001) (trafficWith 4094 (Steps (pos 1)))
     ∷ feet 4094 (pos 101350)
-    -- 10. Frame header 96 00 is length 300, 00 80 is 1, D3 00 at byte 0 is 422 and fits; D3 80 gives 11
+    -- 10: headers of information frames, and two at byte 0
     ∷ header 0x96 0x00 300
     ∷ header 0x00 0x80 1
     ∷ header 0xD3 0x00 422
@@ -57,7 +57,7 @@ Starred = AllHold starred
 
 abbrev pub examples : List Row
 examples =
-    -- 11. Traffic of 001 §3.5.2: 5,000 feet, 123 knots, one step of climb, N825V
+    -- 11: the traffic report of 001 §3.5.2
     read (trafficMessage 0x0F0 0x001) (trafficWith 240 (Steps (pos 1)))
     ∷ feet 240 (pos 5000)
     -- 001 §2.2.4: the heartbeat's frame

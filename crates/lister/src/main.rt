@@ -1,4 +1,4 @@
-// Lists the frames of standard input on standard output (01 'The lister's output').
+// Lists the frames of standard input on standard output (RULES 'Listing').
 use libc::STDERR_FILENO;
 use libc::STDIN_FILENO;
 use libc::STDOUT_FILENO;

@@ -1,4 +1,4 @@
--- What is proved of the listing, over the definitions that the contracts cite.
+-- What is proved of the listing (RULES 'Listing'), over the definitions that the contracts cite.
 -- Assumes nothing.
 use mathlib.Core.Path.{_≡_}
 use mathlib.Core.List.{List, _∷_, _++_}

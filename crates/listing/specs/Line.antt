@@ -1,4 +1,4 @@
--- Numbers and lines as text (01 'The lister's output').
+-- Numbers and lines as text (RULES 'Listing').
 -- Assumes nothing.
 use Prim.Native.Nat.{ℕ, zero, suc, _+_, _/_, _%_}
 use mathlib.Core.Bool.{Bool, true, false}

@@ -1,4 +1,4 @@
--- The listing of a byte stream (01 'The lister's output').
+-- The listing of a byte stream (RULES 'Listing').
 -- Assumes nothing.
 use mathlib.Core.Path.{_≡_}
 use Prim.Native.Nat.{ℕ, suc, _+_, _-_, _≤_}

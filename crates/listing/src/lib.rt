@@ -1,4 +1,4 @@
-// The listing of a byte stream as text, a stretch of input at a time (01 'The lister's output').
+// The listing of a byte stream as text, a stretch of input at a time (RULES 'Listing').
 ghost use mathlib.Core.Path.{_≡_};
 ghost use mathlib.Core.Bool.{cond};
 ghost use mathlib.Core.List.{_++_, _∷_, []};

@@ -1,4 +1,4 @@
-// The nine kinds of message as typed values (001 §3; 01 'Messages and their lengths'). There is no code here: the crates above
+// The nine kinds of message as typed values (001 §3; RULES 'Messages'). There is no code here: the crates above
 // read and write them. Marks such as none or over are cases of their own; bits named reserved or spare are carried.
 use units::GeometricSteps;
 use units::PressureSteps;
@@ -212,7 +212,7 @@ impl LongPassThrough {
     pub const LENGTH: usize = 38;
 }
 
-// What reading one kind answers: 01's number, and the value, which is all zero with a refusal.
+// What reading one kind answers: the number, and the value, which is all zero with a refusal.
 #[repr(C)]
 pub struct HeartbeatRead {
     pub number: u8,
@@ -264,6 +264,6 @@ pub enum Message {
 
 pub enum Reading {
     Message(Message),
-    // 01's number: 6, empty or another id; 7, length; 8, a field outside its range
+    // the number: 6, empty or another id; 7, length; 8, a field outside its range
     Refused(u8),
 }

@@ -1,4 +1,4 @@
--- Demand 2 of 01 for messages, from the laws of each kind.
+-- Demand 2 (RULES 'Demands') for messages, from the laws of each kind.
 -- Assumes nothing.
 use mathlib.Core.Path.{_≡_, refl, ap, _∙_, subst}
 use mathlib.Core.Bool.{Bool, true}

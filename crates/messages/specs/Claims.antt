@@ -1,4 +1,4 @@
--- Demand 2 of 01 for messages, over all nine kinds at once.
+-- Demand 2 (RULES 'Demands') for messages, over all nine kinds at once.
 -- Assumes nothing.
 use mathlib.Core.Path.{_≡_}
 use Prim.Native.Nat.{ℕ, _<_}

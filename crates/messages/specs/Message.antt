@@ -1,4 +1,4 @@
--- The nine kinds of message together (001 §3, Table 2; 01 'Messages and their lengths').
+-- The nine kinds of message together (001 §3, Table 2; RULES 'Messages').
 -- Assumes nothing.
 use mathlib.Core.Path.{_≡_}
 use Prim.Native.Nat.{ℕ}
@@ -42,7 +42,7 @@ kindOf id =
 unfoldable pub kindIn : List ℕ → Kind
 kindIn m = cond (eqb (length m) 0) kind.Unknown (kindOf (getD m 0 0))
 
--- 01's number for each kind: 6 where it is none
+-- the number for each kind: 6 where it is none
 abbrev pub kindNumber : Kind → ℕ
 kindNumber kind.Heartbeat = 0
 kindNumber kind.Initialization = 0
@@ -75,7 +75,7 @@ readMessage m = readAs (kindIn m) m
 abbrev pub asReading : ℕ → Message → Reading
 asReading k x = cond (eqb k 0) (Accepted x) (Refused k)
 
--- 01's number and the value for each case of a reading: a refusal carries only the number
+-- the number and the value for each case of a reading: a refusal carries only the number
 abbrev pub readingNumber : Reading → ℕ
 readingNumber (Accepted x) = 0
 readingNumber (Refused k) = k

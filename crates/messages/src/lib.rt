@@ -1,4 +1,4 @@
-// Reading and writing a message of whatever kind (001 §3; 01 'Messages and their lengths').
+// Reading and writing a message of whatever kind (001 §3; RULES 'Messages').
 ghost use mathlib.Core.Path.{_≡_};
 ghost use Rattle.messages.specs.Message.{kindOf, kindIn, readAs, asReading, readMessage, WroteMessage};
 use codec::Written;

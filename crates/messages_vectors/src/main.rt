@@ -1,4 +1,4 @@
-// Reads each message of standard input and prints 01's number and, where it is 0, the kind, its fields and
+// Reads each message of standard input and prints the number and, where it is 0, the kind, its fields and
 // the bytes that writing them gives. A record of the input is the message's length, two bytes, high byte
 // first, and then the message. The records and the text that is stored beside this program come from
 // rust/reference.

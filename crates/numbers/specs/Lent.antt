@@ -1,4 +1,4 @@
--- What writing leaves in lent memory, and parts of it that are handed back.
+-- What writing leaves in lent memory (RULES 'Numbers'), and parts of it that are handed back.
 -- Assumes nothing.
 use mathlib.Core.Path.{_≡_}
 use Prim.Native.Nat.{ℕ, _+_}

@@ -1,4 +1,4 @@
--- Basic and long pass-through (001 §3.6): ids 30 and 31, 22 and 38 bytes.
+-- Basic and long pass-through (001 §3.6, RULES 'Pass-through'): ids 30 and 31, 22 and 38 bytes.
 -- Assumes nothing.
 use Prim.Native.Nat.{ℕ, _+_}
 use mathlib.Core.Bool.{Bool}
@@ -41,7 +41,7 @@ basicPassThroughBytes p = received 30 (p .reception) (basicPayload p)
 abbrev pub basicRefused : ℕ → BasicRead
 basicRefused k = record { number = k; basic = record { reception = Steps 0; a = noBytes; b = noBytes; e = 0; f = 0 } }
 
--- 01's number with the value, and the same as a message of whatever kind
+-- the number with the value, and the same as a message of whatever kind
 abbrev pub basicRead : List ℕ → BasicRead
 basicRead = reading 30 22 basicPassThroughIn goodBasicPassThrough (λ p. record { number = 0; basic = p }) basicRefused
 

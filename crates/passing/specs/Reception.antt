@@ -1,4 +1,4 @@
--- The time of reception (001 §3.3.1), and the messages that start with one.
+-- The time of reception (001 §3.3.1, RULES 'Uplink'), and the messages that start with one.
 -- Assumes nothing.
 use Prim.Native.Nat.{ℕ, _+_, _*_, _/_, _%_}
 use mathlib.Core.Bool.{Bool, true, cond}

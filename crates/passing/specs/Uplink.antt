@@ -1,4 +1,4 @@
--- The uplink (001 §3.3): id 7, 436 bytes, of which the payload is 432.
+-- The uplink (001 §3.3, RULES 'Uplink'): id 7, 436 bytes, of which the payload is 432.
 -- Assumes nothing.
 use mathlib.Core.Path.{_≡_}
 use Prim.Native.Nat.{ℕ}
@@ -31,7 +31,7 @@ uplinkBytes u payload = received 7 (u .reception) payload
 abbrev pub uplinkRefused : ℕ → UplinkRead
 uplinkRefused k = record { number = k; uplink = record { reception = Steps 0 } }
 
--- 01's number with the value, and the same as a message of whatever kind
+-- the number with the value, and the same as a message of whatever kind
 abbrev pub uplinkRead : List ℕ → UplinkRead
 uplinkRead = reading 7 436 uplinkIn goodUplink (λ u. record { number = 0; uplink = u }) uplinkRefused
 

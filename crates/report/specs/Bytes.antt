@@ -1,4 +1,4 @@
--- A report's bytes (001 §3.5.1): the id, then st aa aa aa ll ll ll nn nn nn dd dm ia hh hv vv tt ee, eight bytes of call sign, px,
+-- A report's bytes (001 §3.5.1, RULES 'Reports'): the id, then st aa aa aa ll ll ll nn nn nn dd dm ia hh hv vv tt ee, eight bytes of call sign, px,
 -- where each letter is four bits.
 -- Assumes nothing.
 use Prim.Native.Nat.{ℕ, _+_, _*_, _/_, _%_}

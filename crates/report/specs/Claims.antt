@@ -1,4 +1,4 @@
--- What is proved of reports, besides that the code reads and writes them.
+-- What is proved of reports (RULES 'Reports', 'Messages'), besides that the code reads and writes them.
 -- Assumes nothing.
 use mathlib.Core.Path.{_≡_}
 use mathlib.Core.Bool.{true}

@@ -1,4 +1,4 @@
--- Each field of a report and the number that stands for it in the bytes (001 §3.5.1.3 to §3.5.1.8). Marks are cases of their own.
+-- Each field of a report and the number that stands for it in the bytes (001 §3.5.1.3 to §3.5.1.8, RULES 'Reports'). Marks are cases of their own.
 -- Assumes nothing.
 use Prim.Native.Nat.{ℕ}
 use mathlib.Core.Bool.{Bool, true, false, cond, _&&_}

@@ -1,4 +1,4 @@
--- Which reports are good, in both directions, and what reading answers (01).
+-- Which reports are good, in both directions, and what reading answers (RULES 'Reports').
 -- Assumes nothing.
 use Prim.Native.Nat.{ℕ}
 use mathlib.Core.Bool.{Bool, false, Bool·beq, _&&_, _||_}
@@ -24,7 +24,7 @@ between low high z = leZ low z && leZ z high
 abbrev pub isZero : ℤ → Bool
 isZero = between (pos 0) (pos 0)
 
--- the ranges of 01 (`negsuc k` is -(k + 1)): latitude from pole to pole, climb from -509 to 509, integrity and accuracy to 11
+-- the ranges (`negsuc k` is -(k + 1)): latitude from pole to pole, climb from -509 to 509, integrity and accuracy to 11
 abbrev pub southPole : ℤ
 southPole = negsuc 4194303
 
@@ -102,7 +102,7 @@ reportRefused k = record {
   };
 }
 
--- of the kind with this id and length: 01's number with the value in numbers
+-- of the kind with this id and length: the number with the value in numbers
 abbrev pub reportRead : ℕ → ℕ → List ℕ → FlatReportRead
 reportRead id size = reading id size reportIn goodReport reportAccepted reportRefused
 

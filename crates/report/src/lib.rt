@@ -23,7 +23,7 @@ use message_types::Speed;
 use message_types::Traffic;
 use units::PressureSteps;
 
-// The ranges of 01: latitude from pole to pole, climb from -509 to 509, integrity and accuracy to 11.
+// The ranges of RULES 'Reports': latitude from pole to pole, climb from -509 to 509, integrity and accuracy to 11.
 const SOUTH_POLE: i32 = -4194304;
 
 const NORTH_POLE: i32 = 4194304;

@@ -1,4 +1,4 @@
--- What is proved of degrees, besides that the code works them out.
+-- What is proved of degrees (RULES 'Degrees'), besides that the code works them out.
 -- Assumes nothing.
 use lib.IntN.{ℤ}
 use Rattle.units.specs.Degrees.{inDegrees, ExactlyAt}

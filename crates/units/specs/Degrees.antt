@@ -1,4 +1,4 @@
--- Steps as degrees (001 §3.5.1.3). That nothing is lost is said over whole numbers, of the float's 64 bits.
+-- Steps as degrees (001 §3.5.1.3, RULES 'Degrees'). That nothing is lost is said over whole numbers, of the float's 64 bits.
 -- Assumes nothing.
 use mathlib.Core.Path.{_≡_}
 use mathlib.Core.Bool.{Bool, cond, not}
@@ -47,7 +47,7 @@ unfoldable pub ExactlyAt : ℤ → ℤ → InDegrees → Type 0
 ExactlyAt latitude longitude (At d) = Exactly latitude (toBits binary64 (d .latitude)) × Exactly longitude (toBits binary64 (d .longitude))
 ExactlyAt latitude longitude (Refused k) = k ≡ 8
 
--- 01's number and the two values for each case, 0 beside a refusal
+-- the number and the two values for each case, 0 beside a refusal
 abbrev pub degreesNumber : InDegrees → ℕ
 degreesNumber (At d) = 0
 degreesNumber (Refused k) = k

@@ -1,4 +1,4 @@
--- Feet, from each of the three units (001 §3.5.1.4, §3.7, §3.8).
+-- Feet, from each of the three units (001 §3.5.1.4, §3.7, §3.8, RULES 'Units').
 -- Assumes nothing.
 use Prim.Native.Nat.{_*_}
 use lib.IntN.{ℤ, pos, _-ℤ_, _*ℤ_}

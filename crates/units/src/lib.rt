@@ -1,4 +1,4 @@
-// The three units of altitude, kept apart, and steps of latitude and longitude in degrees (01).
+// The three units of altitude, kept apart, and steps of latitude and longitude in degrees (RULES 'Units', 'Degrees').
 ghost use mathlib.Core.Path.{_≡_};
 ghost use lib.Signed.{mag};
 ghost use Rattle.units.specs.Degrees.{degrees, inDegrees, ExactlyAt};

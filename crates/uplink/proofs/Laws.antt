@@ -1,4 +1,4 @@
--- What is proved of adding, and the values of 01 and 001.
+-- What is proved of listing and adding, and the samples of 001.
 -- Assumes nothing.
 use mathlib.Core.Path.{_≡_, refl, _∙_}
 use mathlib.Core.Bool.{Bool, true, false, cond}

@@ -1,4 +1,4 @@
--- Adding an information frame to an uplink payload (01 'Uplink payloads').
+-- Adding an information frame to an uplink payload (RULES 'Adding a frame').
 -- Assumes nothing.
 use mathlib.Core.Path.{_≡_}
 use Prim.Native.Nat.{ℕ, _+_, _-_}
@@ -29,7 +29,7 @@ abbrev pub endOf : Frames → ℕ
 endOf (listed fs end) = end
 endOf (refused k) = 0
 
--- 01's number, and the payload that is left, for each case
+-- the number, and the payload that is left, for each case
 abbrev pub addedNumber : Added → ℕ
 addedNumber Done = 0
 addedNumber (Refused k) = k

@@ -1,4 +1,4 @@
--- What listing a payload's frames, and asking for one of them, answers.
+-- What listing a payload's frames, and asking for one of them, answers (RULES 'Uplink payloads').
 -- Assumes nothing.
 use Prim.Native.Nat.{ℕ, _+_}
 use mathlib.Core.Bool.{cond}
@@ -38,7 +38,7 @@ dataStart (nth.Refused k) = 0
 unfoldable pub dataIn : List ℕ → Frame → List ℕ
 dataIn p f = stretch (dataStart (nth.Frame f)) (f .length) p
 
--- 01's number and the frame for each case of a frame asked for, 0 beside a refusal
+-- the number and the frame for each case of a frame asked for, 0 beside a refusal
 abbrev pub foundNumber : Found → ℕ
 foundNumber (nth.Frame f) = 0
 foundNumber (nth.Refused k) = k
@@ -56,7 +56,7 @@ unfoldable pub scanned : ℕ → Frames → Walked
 scanned n (listed fs end) = scan.Listed (length fs) end (getD fs n none)
 scanned n (refused k) = scan.Refused k
 
--- 01's number and values for each case, 0 beside a refusal
+-- the number and values for each case, 0 beside a refusal
 abbrev pub listNumber : FrameList → ℕ
 listNumber (list.Frames n end) = 0
 listNumber (list.Refused k) = k

@@ -1,4 +1,4 @@
--- What is proved of listing and adding, over the definitions that the contracts cite.
+-- What is proved of listing and adding (RULES 'Uplink payloads', 'Adding a frame'), over the definitions that the contracts cite.
 -- Assumes nothing.
 use mathlib.Core.Path.{_≡_}
 use Prim.Native.Nat.{ℕ, _+_, _<_, _≤_}

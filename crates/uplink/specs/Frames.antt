@@ -1,4 +1,4 @@
--- An information frame's header (001 §4.2), and the valid bit of the payload's header (01).
+-- An information frame's header (001 §4.2), and the valid bit of the payload's header (RULES 'Uplink payloads').
 -- Assumes nothing.
 use Prim.Native.Nat.{ℕ, _+_, _-_, _*_, _/_, _%_}
 use mathlib.Core.List.{List, _∷_}

@@ -1,4 +1,4 @@
--- The list of the information frames of an uplink payload (01 'Uplink payloads').
+-- The list of the information frames of an uplink payload (RULES 'Uplink payloads').
 -- Assumes nothing.
 use Prim.Native.Nat.{ℕ, zero, suc, _/_, _%_}
 use mathlib.Core.Bool.{cond}
@@ -8,7 +8,7 @@ use lib.ListN.{length, getD, drop}
 use Rattle.uplink.specs.declared.Frame.{Frame}
 use Rattle.uplink.specs.Frames.{lengthIn, headed}
 
--- the frames, and the byte of the application data at which their list ends; or 01's number of a refusal
+-- the frames, and the byte of the application data at which their list ends; or the number of a refusal
 pub data Frames : Type 0 where
   listed : List Frame → ℕ → Frames
   refused : ℕ → Frames

@@ -1,4 +1,4 @@
-// The information frames of an uplink payload (001 §4; 01 'Uplink payloads'): 8 bytes of header, then 424 of application data.
+// The information frames of an uplink payload (001 §4; RULES 'Uplink payloads'): 8 bytes of header, then 424 of application data.
 ghost use mathlib.Core.Path.{_≡_};
 ghost use mathlib.Core.Bool.{cond};
 ghost use mathlib.Core.List.{_++_};
@@ -23,19 +23,19 @@ pub struct Frame {
 pub enum FrameList {
     // how many frames, and the byte of the application data at which their list ends
     Frames { count: usize, end: usize },
-    // 01's number: 7, payload not 432 bytes; 11, a frame runs past the application data; 12, a length over 422
+    // the number: 7, payload not 432 bytes; 11, a frame runs past the application data; 12, a length over 422
     Refused(u8),
 }
 
 pub enum Found {
     Frame(Frame),
-    // 01's number: 7, 11, 12 as of `list`; 13, no frame with that number
+    // the number: 7, 11, 12 as of `list`; 13, no frame with that number
     Refused(u8),
 }
 
 pub enum Added {
     Done,
-    // 01's number: 7, 11, 12 as of `list`; 8, a type over 15 or data not of 1 to 422 bytes; 9, no room
+    // the number: 7, 11, 12 as of `list`; 8, a type over 15 or data not of 1 to 422 bytes; 9, no room
     Refused(u8),
 }
 

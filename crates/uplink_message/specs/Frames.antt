@@ -1,4 +1,4 @@
--- The information frames of an uplink message.
+-- The information frames of an uplink message (RULES 'Uplink payloads').
 -- Assumes nothing.
 use Prim.Native.Nat.{ℕ}
 use mathlib.Core.Bool.{cond}

@@ -1,5 +1,5 @@
 // The information frames of an uplink message: its payload, the message from its fifth byte on, is passed as a part to the walk
-// (01 'Messages and their lengths', 'Uplink payloads').
+// (RULES 'Uplink', 'Uplink payloads').
 ghost use mathlib.Core.Path.{_≡_};
 ghost use Rattle.numbers.specs.Lent.{behind};
 ghost use Rattle.passing.specs.Uplink.{payloadStart, payloadOf};

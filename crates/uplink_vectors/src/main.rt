@@ -1,10 +1,11 @@
 // Lists the information frames of uplink payloads, and adds frames to them. A record of the input is a
 // letter, a size, two bytes, high byte first, and that many bytes: P, a payload; M, a message; A, a type
 // and data, which are added to the payload that was given last, also in a message; L, no bytes: that
-// payload as it is now.
-// Of P, M and L it prints 01's number and, where it is 0, the list's count and end, and of each frame type,
+// payload as it is now. One that is not of 432 bytes is cut to them or filled with zeros before frames are
+// added, and a refused message leaves zeros.
+// Of P, M and L it prints the number and, where it is 0, the list's count and end, and of each frame type,
 // reserved bits, length and the first two bytes of the data, in which the product id is (001 §5); then what
-// the number behind the last is answered. Of A it prints 01's number and the check sequence of the payload
+// the number behind the last is answered. Of A it prints the number and the check sequence of the payload
 // that is left. The records and the text that is stored beside this program come from rust/reference.
 ghost use Prim.Native.Nat.{_+_, _≤_, _<_};
 ghost use lib.ListN.{length};

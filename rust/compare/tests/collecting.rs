@@ -85,7 +85,8 @@ impl Caller {
         fed
     }
 
-    /// On 0 zeros stand behind the message; every other call leaves it (01).
+    /// On 0 zeros stand behind the message; every other call leaves it
+    /// (RULES 'Collecting').
     fn assert_message(&self, fed: &FeedAnswer) {
         if fed.answered && fed.number == 0 {
             assert!((1..=MESSAGE_MAX).contains(&fed.length), "{fed:?}");
@@ -265,7 +266,8 @@ fn dropped_iterators_leave_the_rest() {
     }
 }
 
-/// After every answer the state is that of one flag just seen (01).
+/// After every answer the state is that of one flag just seen
+/// (RULES 'Collecting').
 #[test]
 fn answers_leave_the_state_of_one_flag() {
     let mut random = Xorshift::new(0x0F1A_6000);

@@ -75,7 +75,7 @@ fn uplink_answer(message: &[u8]) -> Result<gdl90::Uplink<'_>, u8> {
 }
 
 /// By the function that looks for the kind, and by the kind's own. There is no
-/// kind exactly if reading answers 6 (01).
+/// kind exactly if reading answers 6 (RULES 'Numbers').
 fn assert_readings_agree(message: &[u8]) {
     let expected = reference::messages::read(message);
     let kind = raw::kind(message);
@@ -95,7 +95,7 @@ fn assert_readings_agree(message: &[u8]) {
 }
 
 /// What a function of writing answers in this room, with the bytes written.
-/// Nothing else changes, and a refusal changes nothing (01).
+/// Nothing else changes, and a refusal changes nothing (RULES 'Numbers').
 fn written(room: usize, mut write: impl FnMut(&mut [u8]) -> WriteAnswer) -> Result<Vec<u8>, u8> {
     // A byte that was not written differs between the two fills.
     let [first, second] = [0xA5, 0x5A].map(|fill| {
@@ -502,7 +502,7 @@ fn climbs_of_32_bits_are_refused() {
     }
 }
 
-/// 7, then 8, then 9 (01); only an uplink has all three.
+/// 7, then 8, then 9 (RULES 'Numbers'); only an uplink has all three.
 #[test]
 fn refusals_of_an_uplink_have_their_order() {
     let (last, beyond) = (RECEPTION_MAX, RECEPTION_MAX + 1);

@@ -4,7 +4,7 @@ use gdl90::raw::{self, DegreesAnswer};
 use gdl90::{Error, GeometricSteps, Position, PressureSteps, TerrainFeet};
 use reference::messages::{AltitudeSteps, FiveFootSteps, OUT_OF_RANGE};
 
-/// 24 bits, signed (01).
+/// 24 bits, signed (RULES 'Degrees').
 const STEPS: std::ops::RangeInclusive<i32> = -8_388_608..=8_388_607;
 
 #[test]
@@ -23,7 +23,7 @@ fn every_number_of_feet_agrees() {
     }
 }
 
-/// Values 9 of 01.
+/// Value 9 of RULES 'Values'.
 #[test]
 fn altitudes_of_01() {
     let feet = [0x000, 0x028, 0xFFE].map(|steps| raw::pressure_feet(PressureSteps(steps)));
@@ -31,7 +31,7 @@ fn altitudes_of_01() {
 }
 
 /// The float's sign, fraction and exponent give 180 times the steps once the
-/// exponent is raised by 23, over whole numbers (01).
+/// exponent is raised by 23, over whole numbers (RULES 'Degrees').
 fn assert_exact(degrees: f64, steps: i32) {
     let bits = degrees.to_bits();
     if steps == 0 {
@@ -49,7 +49,7 @@ fn assert_exact(degrees: f64, steps: i32) {
 }
 
 /// Latitude and longitude differ, so that neither is taken for the other. The
-/// range of a latitude is not checked here (01).
+/// range of a latitude is not checked here (RULES 'Degrees').
 #[test]
 fn every_number_of_steps_is_exact() {
     for steps in STEPS {

@@ -93,7 +93,8 @@ fn safe_lists_end() {
     assert_eq!(information_frame(&[], 0), Err(Error::WrongLength));
 }
 
-/// Adds in lent memory with guards; a refusal changes nothing (01).
+/// Adds in lent memory with guards; a refusal changes nothing
+/// (RULES 'Numbers').
 fn assert_adds_agree(payload: &mut Vec<u8>, frame_type: u8, data: &[u8]) -> u8 {
     let mut lent = [&[0xA5; GUARD][..], payload, &[0x5A; GUARD]].concat();
     let mut expected = lent.clone();

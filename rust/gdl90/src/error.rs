@@ -2,7 +2,7 @@
 
 use std::fmt;
 
-/// Why the library refused, one case for each number of the scope paper.
+/// Why the library refused, one case for each number (RULES 'Numbers').
 ///
 /// A refusal leaves memory that was lent for output as it was.
 ///
@@ -70,7 +70,7 @@ impl Error {
         })
     }
 
-    /// The scope paper's number.
+    /// The number of RULES 'Numbers'.
     #[inline]
     pub fn number(self) -> u8 {
         self as u8

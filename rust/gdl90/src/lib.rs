@@ -4,7 +4,8 @@
 //! The work is done by `libgdl90.a`, which is proved to do what its contracts say
 //! for every input; this crate gives it types. It needs nothing but the standard
 //! library. Its build script makes the archive with `rt staticlib gdl90` where it
-//! is not there yet; GDL90_LIB_DIR names another folder that has it.
+//! is not there or older than its sources; GDL90_LIB_DIR names another folder that
+//! has it. The archive is for x86-64 Linux only.
 //!
 //! ```
 //! use gdl90::Collector;
@@ -38,8 +39,9 @@
 //! - [`Error`] says why something was refused. Nothing panics, whatever the bytes
 //!   and values, if archive and crate are of one version.
 //!
-//! 001 is the public GDL 90 specification (560-1058-00 Rev A), 01 the scope paper
-//! of the library, which gives each refusal its number.
+//! 001 is the public GDL 90 specification (560-1058-00 Rev A). RULES is the
+//! library's own docs/RULES.md, every rule that it keeps; its heading 'Numbers'
+//! says when each number is given.
 
 #![warn(missing_docs)]
 #![deny(unsafe_op_in_unsafe_fn)]

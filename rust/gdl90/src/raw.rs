@@ -16,7 +16,7 @@ pub use values::{
 
 use crate::units::{GeometricSteps, PressureSteps, TerrainFeet};
 
-/// The longest message, an uplink (01).
+/// The longest message, an uplink (RULES 'Messages').
 pub const MESSAGE_MAX: usize = 436;
 /// Bytes that collecting keeps: the longest message and its check sequence.
 pub const ROOM: usize = MESSAGE_MAX + 2;
@@ -75,7 +75,8 @@ pub fn frame(message: &[u8], out: &mut [u8]) -> FrameAnswer {
 }
 
 /// Takes bytes until one closes a frame or there are no more. No state is
-/// unsafe: one that cannot be is taken as the fresh one (01).
+/// unsafe: one that cannot be is taken as the fresh one
+/// (RULES 'Structs for C').
 #[inline]
 pub fn feed(
     control: FeedControl,
@@ -192,7 +193,7 @@ pub fn nth(payload: &[u8], n: usize) -> NthAnswer {
     unsafe { gdl90_nth(payload.as_ptr(), payload.len(), n) }
 }
 
-/// Adds an information frame behind the others; answers 01's number: 7, 11, 12,
+/// Adds an information frame behind the others; answers the number: 7, 11, 12,
 /// 8, 9.
 #[inline]
 pub fn add(payload: &mut [u8], kind: u8, data: &[u8]) -> u8 {

@@ -8,7 +8,8 @@ use gdl90::{
     LongPassThrough, Message, Report,
 };
 
-/// Marks up to the last that a field has become values; all others are 8 (01).
+/// Marks up to the last that a field has become values; all others are 8
+/// (RULES 'Structs for C').
 fn assert_marks<Raw, Value>(last: u8, with_mark: impl Fn(u8) -> Raw)
 where
     Raw: Copy + Debug + PartialEq + From<Value>,

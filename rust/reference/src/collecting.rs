@@ -1,12 +1,12 @@
-//! Collecting messages from a stream of bytes, 001 §2.2.1 and 01.
+//! Collecting messages from a stream of bytes, 001 §2.2.1 and RULES 'Collecting'.
 
 use crate::fcs::check_sequence;
 use crate::framing::{ESCAPE, ESCAPE_FLIP, FLAG, MESSAGE_MAX};
 
-/// The longest message and its check sequence (01).
+/// The longest message and its check sequence (RULES 'Collecting').
 pub const ROOM: usize = MESSAGE_MAX + 2;
 
-/// Numbers of 01.
+/// The numbers of RULES 'Numbers'.
 pub const BAD_ESCAPE: u8 = 1;
 pub const ESCAPE_BEFORE_FLAG: u8 = 2;
 pub const TOO_LONG: u8 = 3;
@@ -22,7 +22,7 @@ pub enum Answer<'a> {
     None,
     /// Accepted: the message without its check sequence.
     Message(&'a [u8]),
-    /// Refused with this number of 01.
+    /// Refused with this number.
     Refused(u8),
 }
 
@@ -32,7 +32,7 @@ enum Phase {
     Clear,
     /// The last byte was a control escape.
     Escape,
-    /// This number of 01 was met: the bytes up to the flag do not count.
+    /// This number was met: the bytes up to the flag do not count.
     Fault(u8),
 }
 
@@ -51,7 +51,7 @@ impl Collector {
         }
     }
 
-    /// Takes the next byte of the stream; only a flag is answered (01).
+    /// Takes the next byte of the stream; only a flag is answered.
     #[inline]
     pub fn push(&mut self, byte: u8) -> Answer<'_> {
         if byte == FLAG {
@@ -164,7 +164,7 @@ impl Default for Collector {
     }
 }
 
-/// Checks 4, then 5; nothing between two flags is no answer (01).
+/// Checks 4, then 5; nothing between two flags is no answer.
 fn check(unstuffed: &[u8]) -> Answer<'_> {
     match unstuffed {
         [] => Answer::None,

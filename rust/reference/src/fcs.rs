@@ -69,7 +69,7 @@ mod tests {
         assert_eq!(check_sequence(&[0x01, 0x00, 0x00]), 0x1021);
     }
 
-    /// The first 16 are the words of 02 (vi).
+    /// The first 16 are the words of RULES 'Check sequence'.
     #[test]
     fn word_i_is_the_sequence_of_i_and_two_zero_bytes() {
         for i in 0..=255 {

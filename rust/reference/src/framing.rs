@@ -6,10 +6,10 @@ pub const FLAG: u8 = 0x7E;
 pub const ESCAPE: u8 = 0x7D;
 pub(crate) const ESCAPE_FLIP: u8 = 0x20;
 
-/// The longest message, 436 bytes (01).
+/// The longest message, 436 bytes (RULES 'Framing').
 pub const MESSAGE_MAX: usize = 436;
 
-/// Numbers of 01.
+/// The numbers of RULES 'Numbers'.
 pub const OUTPUT_TOO_SHORT: u8 = 9;
 pub const NOT_A_MESSAGE_LENGTH: u8 = 10;
 
@@ -17,7 +17,7 @@ pub const NOT_A_MESSAGE_LENGTH: u8 = 10;
 pub enum Framed {
     /// Length of the frame written at the start of the output.
     Bytes(usize),
-    /// Refused with this number of 01; the output is unchanged.
+    /// Refused with this number; the output is unchanged.
     Refused(u8),
 }
 
@@ -27,7 +27,7 @@ pub fn frame(message: &[u8], out: &mut [u8]) -> Framed {
         return Framed::Refused(NOT_A_MESSAGE_LENGTH);
     }
     let sequence = check_sequence(message).to_le_bytes();
-    // The length comes first: a refusal must leave the output unchanged (01).
+    // The length comes first: a refusal must leave the output unchanged.
     let length = 1 + stuffed_length(message) + stuffed_length(&sequence) + 1;
     let Some(frame) = out.get_mut(..length) else {
         return Framed::Refused(OUTPUT_TOO_SHORT);

@@ -1,6 +1,6 @@
 //! Second implementation of GDL 90 framing, collecting, messages, uplink payloads
-//! and the frame lister, written from 001 and 01, so that the proved library has
-//! something independent to be compared with.
+//! and the frame lister, written from 001 and the rules (docs/RULES.md) alone, so
+//! that the proved library has something independent to be compared with.
 
 pub mod collecting;
 pub mod fcs;

@@ -1,4 +1,4 @@
-//! The lister's output, 01: one line for each answer to a byte stream.
+//! The lister's output (RULES 'Listing'): one line for each answer to a stream.
 
 use std::io::{self, BufWriter, ErrorKind, Read, Write};
 
@@ -6,7 +6,7 @@ use crate::collecting::{Answer, Collector};
 use crate::framing::FLAG;
 use crate::messages;
 
-/// As many bytes are listed at most (01).
+/// As many bytes are listed at most.
 pub const LIMIT: u64 = 4_294_967_295;
 
 /// Bytes asked for at a time.

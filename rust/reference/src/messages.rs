@@ -1,4 +1,4 @@
-//! The nine kinds of message as typed values, 001 §3 and 01.
+//! The nine kinds of message as typed values, 001 §3 and RULES 'Messages'.
 
 mod fields;
 mod heartbeat;
@@ -17,7 +17,7 @@ pub use report::{
 use crate::framing::MESSAGE_MAX;
 use fields::exactly;
 
-/// Numbers of 01.
+/// The numbers of RULES 'Numbers'.
 pub use crate::framing::OUTPUT_TOO_SHORT;
 pub const NOT_LISTED: u8 = 6;
 pub const WRONG_LENGTH: u8 = 7;
@@ -34,7 +34,7 @@ pub const TRAFFIC_ID: u8 = 20;
 pub const BASIC_ID: u8 = 30;
 pub const LONG_ID: u8 = 31;
 
-/// Each id with its length, the id included (01).
+/// Each id with its length, the id included (RULES 'Messages').
 pub const LENGTHS: [(u8, usize); 9] = [
     (HEARTBEAT_ID, 7),
     (INITIALIZATION_ID, 3),
@@ -60,7 +60,7 @@ pub enum Message {
     Long(Received<34>),
 }
 
-/// Checks 6, 7, 8 in this order (01).
+/// Checks 6, 7, 8 in this order (RULES 'Numbers').
 pub fn read(message: &[u8]) -> Result<Message, u8> {
     let [id, fields @ ..] = message else {
         return Err(NOT_LISTED);
@@ -79,15 +79,15 @@ pub fn read(message: &[u8]) -> Result<Message, u8> {
     }
 }
 
-/// Checks 7 (an uplink's payload only), then 8 (01).
+/// Checks 7 (an uplink's payload only), then 8 (RULES 'Numbers').
 pub fn write(message: &Message) -> Result<Vec<u8>, u8> {
     let mut out = [0; MESSAGE_MAX];
     let length = write_into(message, &mut out)?;
     Ok(out[..length].to_vec())
 }
 
-/// Checks 7 (an uplink's payload only), 8, 9 in this order (01) and answers how
-/// many bytes were written. A refusal leaves the output unchanged.
+/// Checks 7 (an uplink's payload only), 8, 9 in this order (RULES 'Numbers') and
+/// answers how many bytes were written. A refusal leaves the output unchanged.
 pub fn write_into(message: &Message, out: &mut [u8]) -> Result<usize, u8> {
     match message {
         Message::Heartbeat(heartbeat) => put(HEARTBEAT_ID, &heartbeat.write()?, out),
@@ -218,7 +218,7 @@ mod tests {
         }
     }
 
-    /// Nothing is lost: reserved and spare bits are carried (01).
+    /// Nothing is lost: reserved and spare bits are carried (RULES 'Messages').
     #[test]
     fn accepted_messages_keep_their_bytes() {
         let mut random = Xorshift::new(12);

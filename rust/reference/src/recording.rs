@@ -60,7 +60,7 @@ pub fn mixed(random: &mut Xorshift, length: usize) -> Vec<u8> {
             0 => framed(&message),
             _ => damaged(random, &message),
         };
-        // Two frames may share the flag between them (01).
+        // Two frames may share the flag between them (RULES 'Collecting').
         if random.below(4) == 0 && out.last() == Some(&FLAG) && part.first() == Some(&FLAG) {
             out.pop();
         }

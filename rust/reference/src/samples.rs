@@ -54,7 +54,7 @@ pub fn stretched(random: &mut Xorshift, id: u8) -> Message {
     let mut value = value(random, id);
     match &mut value {
         Message::Heartbeat(heartbeat) => stretch_heartbeat(random, heartbeat),
-        // Two bytes of any value (01).
+        // Two bytes of any value (RULES 'Initialization').
         Message::Initialization(_) => {}
         Message::Uplink(uplink) => match random.below(2) {
             0 => uplink.reception = Some(any(random) as u32),

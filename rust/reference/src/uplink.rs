@@ -1,4 +1,4 @@
-//! Information frames in an uplink's payload, 001 §4 and 01.
+//! Information frames in an uplink's payload, 001 §4 and RULES 'Uplink payloads'.
 
 use std::ops::Range;
 
@@ -14,11 +14,12 @@ pub const FRAME_HEADER_LENGTH: usize = 2;
 pub const FRAME_DATA_MAX: usize = DATA_LENGTH - FRAME_HEADER_LENGTH;
 pub const FRAME_TYPE_MAX: u8 = 15;
 
-/// Where the header says whether the application data is valid (01).
+/// Where the header says whether the application data is valid
+/// (RULES 'Uplink payloads').
 pub const VALID_AT: usize = 6;
 pub const VALID: u8 = 1 << 5;
 
-/// Numbers of 01.
+/// The numbers of RULES 'Numbers'.
 pub const NO_ROOM: u8 = 9;
 pub const PAST_THE_DATA: u8 = 11;
 pub const FRAME_TOO_LONG: u8 = 12;
@@ -32,7 +33,8 @@ pub struct Frame {
     pub data: Range<usize>,
 }
 
-/// The payload's frames in order. Checks 7, then 11 and 12 at each header (01).
+/// The payload's frames in order. Checks 7, then 11 and 12 at each header
+/// (RULES 'Uplink payloads').
 pub fn list(payload: &[u8]) -> Result<Vec<Frame>, u8> {
     let mut frames = Vec::new();
     walk(payload, |frame| frames.push(frame))?;
@@ -68,7 +70,7 @@ pub fn end(frames: &[Frame]) -> usize {
         .map_or(0, |frame| frame.data.end - HEADER_LENGTH)
 }
 
-/// The n-th frame, from 0. Checks 13 behind those of the list (01).
+/// The n-th frame, from 0. Checks 13 behind those of the list (RULES 'Numbers').
 pub fn nth(payload: &[u8], n: usize) -> Result<Frame, u8> {
     let (mut number, mut found) = (0, None);
     walk(payload, |frame| {
@@ -81,7 +83,7 @@ pub fn nth(payload: &[u8], n: usize) -> Result<Frame, u8> {
 }
 
 /// Adds a frame behind the others. Checks 8, then 9, behind those of the list;
-/// a refusal leaves the payload unchanged (01).
+/// a refusal leaves the payload unchanged (RULES 'Adding a frame').
 pub fn add(payload: &mut [u8], frame_type: u8, data: &[u8]) -> Result<(), u8> {
     let end = walk(payload, |_| ())?;
     if frame_type > FRAME_TYPE_MAX || !(1..=FRAME_DATA_MAX).contains(&data.len()) {
@@ -112,7 +114,7 @@ fn frame_at(payload: &[u8], at: usize) -> Result<Option<Frame>, u8> {
     if at + FRAME_HEADER_LENGTH + length > DATA_LENGTH {
         return Err(PAST_THE_DATA);
     }
-    // 01 asks for it, but what is so long was refused with 11.
+    // RULES 'Numbers' has it, but what is so long was refused with 11.
     if length > FRAME_DATA_MAX {
         return Err(FRAME_TOO_LONG);
     }

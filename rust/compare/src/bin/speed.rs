@@ -32,7 +32,7 @@ const ROUNDS: usize = 101;
 const COLLECT_ROUNDS: usize = 41;
 const WARM_UP: usize = 10;
 const PROFILED_PASSES: usize = 20;
-/// The longest frame: every byte escaped, and two flags (01).
+/// The longest frame: every byte escaped, and two flags (RULES 'Framing').
 const ROOM: usize = 2 * MESSAGE_MAX + 6;
 /// Data of the frame that is added to each payload.
 const ADDED: [u8; 40] = [0xD5; 40];
@@ -104,7 +104,7 @@ fn reference_frame(message: &[u8], out: &mut [u8]) -> Framed {
     reference::framing::frame(message, out)
 }
 
-/// The fields behind the id: 6, then 7 (01).
+/// The fields behind the id: 6, then 7 (RULES 'Messages').
 fn fields<const N: usize>(id: u8, message: &[u8]) -> Result<&[u8; N], u8> {
     match message {
         [first, fields @ ..] if *first == id => fields.try_into().map_err(|_| WRONG_LENGTH),

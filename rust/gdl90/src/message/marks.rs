@@ -12,7 +12,8 @@ pub fn marked<T: Default>(number: Option<T>) -> (u8, T) {
     }
 }
 
-/// The number without its mark; 8 for a mark that the field does not have (01).
+/// The number without its mark; 8 for a mark that the field does not have
+/// (RULES 'Structs for C').
 #[inline]
 pub fn unmarked<T>(mark: u8, number: T) -> Result<Option<T>, Error> {
     match mark {

@@ -38,7 +38,7 @@ pub mod id {
     pub const LONG: u8 = 31;
 }
 
-/// Answer of framing: 01's number, and the bytes written, 0 with a refusal.
+/// Answer of framing: the number, and the bytes written, 0 with a refusal.
 #[repr(C)]
 #[derive(Clone, Copy, Debug, PartialEq, Eq, Default)]
 pub struct FrameAnswer {
@@ -56,7 +56,7 @@ pub struct FeedControl {
 }
 
 /// Answer of collecting: the state to go on with, the bytes taken, and, if the
-/// last of them closed a frame, 01's number and the message's length.
+/// last of them closed a frame, the number and the message's length.
 #[repr(C)]
 #[derive(Clone, Copy, Debug, PartialEq, Eq, Default)]
 pub struct FeedAnswer {
@@ -165,7 +165,7 @@ impl<const N: usize> Default for PassThrough<N> {
     }
 }
 
-/// Answer of reading: 01's number, and the value, all zero with a refusal.
+/// Answer of reading: the number, and the value, all zero with a refusal.
 #[repr(C)]
 #[derive(Clone, Copy, Debug, PartialEq, Eq, Default)]
 pub struct Read<T> {
@@ -173,7 +173,7 @@ pub struct Read<T> {
     pub value: T,
 }
 
-/// Answer of writing: 01's number, and the bytes written, 0 with a refusal.
+/// Answer of writing: the number, and the bytes written, 0 with a refusal.
 #[repr(C)]
 #[derive(Clone, Copy, Debug, PartialEq, Eq, Default)]
 pub struct WriteAnswer {
@@ -181,7 +181,7 @@ pub struct WriteAnswer {
     pub length: usize,
 }
 
-/// Answer of listing: 01's number, how many information frames, and where in
+/// Answer of listing: the number, how many information frames, and where in
 /// the application data their list ends, 0 and 0 with a refusal.
 #[repr(C)]
 #[derive(Clone, Copy, Debug, PartialEq, Eq, Default)]
@@ -191,9 +191,9 @@ pub struct ListAnswer {
     pub end: usize,
 }
 
-/// Answer to a frame's number: 01's number, the frame's type and reserved bits,
-/// where in the payload its data start, and how many bytes they are; all 0 with
-/// a refusal.
+/// Answer to the question for one frame: the number, the frame's type and
+/// reserved bits, where in the payload its data start, and how many bytes they
+/// are; all 0 with a refusal.
 #[repr(C)]
 #[derive(Clone, Copy, Debug, PartialEq, Eq, Default)]
 pub struct NthAnswer {
@@ -204,7 +204,7 @@ pub struct NthAnswer {
     pub length: usize,
 }
 
-/// Answer of degrees: 01's number, and latitude and longitude, 0 and 0 with a
+/// Answer of degrees: the number, and latitude and longitude, 0 and 0 with a
 /// refusal.
 #[repr(C)]
 #[derive(Clone, Copy, Debug, PartialEq, Default)]

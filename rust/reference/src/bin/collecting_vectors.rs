@@ -3,7 +3,7 @@
 //! `collecting_vectors input` writes the recording, in binary.
 //! `collecting_vectors output` writes a block for each piece size: a line
 //! `in pieces of P`, then one line for each answer: offset of the closing flag,
-//! number of 01, message in hex ("-" unless the number is 0).
+//! the number, message in hex ("-" unless the number is 0).
 
 use std::io::{self, Write};
 use std::process::ExitCode;
@@ -29,7 +29,8 @@ fn write_input(out: &mut dyn Write) -> io::Result<()> {
     out.write_all(&recording())
 }
 
-/// The blocks are alike: answers do not depend on how the stream is cut (01).
+/// The blocks are alike: answers do not depend on how the stream is cut
+/// (RULES 'Collecting').
 fn write_output(out: &mut dyn Write) -> io::Result<()> {
     let kept = answers(&recording());
     for piece in PIECES {
@@ -78,7 +79,7 @@ fn add_lead_in(out: &mut Vec<u8>) {
     out.extend(framed(&HEARTBEAT));
 }
 
-/// Values 1 and 3 to 6 of 01.
+/// Values 1 and 3 to 6 of RULES 'Values'.
 fn add_values_of_01(out: &mut Vec<u8>) {
     out.extend(framed(&HEARTBEAT));
     out.extend(framed(&[FLAG]));

@@ -2,7 +2,7 @@
 //!
 //! `framing_vectors input` writes binary records: message length and output
 //! length (both 16 bits, high byte first), then the message.
-//! `framing_vectors output` writes one line for each record: number of 01,
+//! `framing_vectors output` writes one line for each record: the number,
 //! length written, and the whole output room in hex ("-" if it has no bytes).
 
 use std::io::{self, Write};

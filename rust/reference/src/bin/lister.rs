@@ -1,4 +1,4 @@
-//! Lists the frames of standard input on standard output, as 01 says.
+//! Lists the frames of standard input on standard output (RULES 'Listing').
 
 use std::io;
 use std::process::ExitCode;

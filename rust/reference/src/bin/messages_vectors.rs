@@ -2,7 +2,7 @@
 //!
 //! `messages_vectors input` writes binary records: message length (16 bits, high
 //! byte first), then the message.
-//! `messages_vectors output` writes one line for each record: number of 01 and,
+//! `messages_vectors output` writes one line for each record: the number and,
 //! if it is 0, the word of the kind, its fields, and in hex the bytes that
 //! writing what was read gives.
 

@@ -2,7 +2,7 @@
 //! `samples`.
 //!
 //! `sample input` writes the recording, in binary.
-//! `sample output` writes its listing (01).
+//! `sample output` writes its listing (RULES 'Listing').
 
 use std::io::{self, Write};
 use std::process::ExitCode;
@@ -211,8 +211,8 @@ fn wrong_lengths(second: u16) -> Vec<u8> {
     [framed(&longer), framed(shorter)].concat()
 }
 
-/// 8: the second behind the last of a day (value 7 of 01), and a climb that is
-/// neither a number nor a mark (value 8 of 01).
+/// 8: the second behind the last of a day, and a climb that is neither a number
+/// nor a mark (values 7 and 8 of RULES 'Values').
 fn out_of_range() -> Vec<u8> {
     let mut late = HEARTBEAT;
     late[2..5].copy_from_slice(&[0xC1, 0x80, 0x51]);

@@ -3,11 +3,12 @@
 //! `uplink_vectors input` writes binary records: a letter, a size (16 bits, high
 //! byte first), and that many bytes. P is a payload; M a message; A a type and
 //! data, added to the payload given last, also in a message; L, without bytes,
-//! is that payload as it is now.
-//! `uplink_vectors output` writes one line for each record. For P, M and L: number
-//! of 01 and, if it is 0, count and end of the list, then type, reserved bits,
+//! is that payload as it is now. One that is not of 432 bytes is cut to them or
+//! filled with zeros before frames are added, and a refused message leaves zeros.
+//! `uplink_vectors output` writes one line for each record. For P, M and L: the
+//! number and, if it is 0, count and end of the list, then type, reserved bits,
 //! length and the first two bytes in hex of each frame, then the answer to the
-//! number behind the last. For A: number of 01, and the payload's check sequence.
+//! number behind the last. For A: the number, and the payload's check sequence.
 
 use std::io::{self, Write};
 use std::process::ExitCode;
@@ -155,7 +156,8 @@ fn add_lengths(records: &mut Vec<Record>) {
     }
 }
 
-/// Value 10 of 01, lengths around the longest, and data that are not valid.
+/// Value 10 of RULES 'Values', lengths around the longest, and data that are not
+/// valid.
 fn add_headers(records: &mut Vec<Record>) {
     for header in [
         [0x96, 0x00],

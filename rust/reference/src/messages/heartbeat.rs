@@ -2,7 +2,7 @@
 
 use super::fields::in_range;
 
-/// The last second of the day (01).
+/// The last second of the day (RULES 'Heartbeat').
 pub const TIME_MAX: u32 = 86_399;
 
 #[derive(Debug, PartialEq, Eq, Clone, Copy)]
@@ -52,7 +52,7 @@ impl Heartbeat {
     }
 }
 
-/// Configuration bytes, carried (01).
+/// Configuration bytes, carried (RULES 'Initialization').
 #[derive(Debug, PartialEq, Eq, Clone, Copy)]
 pub struct Initialization {
     pub first: u8,
@@ -75,7 +75,7 @@ mod tests {
     use super::*;
     use crate::vectors::HEARTBEAT;
 
-    /// 001 §2.2.4, value 1 of 01.
+    /// 001 §2.2.4, value 1 of RULES 'Values'.
     const EXAMPLE: Heartbeat = Heartbeat {
         status_1: 0x81,
         status_2: 0x41,
@@ -130,7 +130,7 @@ mod tests {
         check(both, [0, 0, 0, 0, 0, 0x03, 0xFF]);
     }
 
-    /// Value 7 of 01.
+    /// Value 7 of RULES 'Values'.
     #[test]
     fn last_second_of_the_day() {
         let last = Heartbeat {

@@ -6,11 +6,11 @@ use super::OUT_OF_RANGE;
 const NO_HEIGHT: i16 = i16::MIN;
 
 const NO_MERIT: u16 = 0x7FFF;
-/// As 01 has it; 0x7FFE is an ordinary 32,766.
+/// As RULES 'Geometric altitude' has it; 0x7FFE is an ordinary 32,766.
 const MERIT_OVER: u16 = 0x7EEE;
 const WARNING: u16 = 0x8000;
 
-/// Units of 01, of which each has feet of its own.
+/// The units of RULES 'Units', of which each has feet of its own.
 #[derive(Debug, PartialEq, Eq, Clone, Copy)]
 pub struct TerrainFeet(pub i16);
 
@@ -150,7 +150,8 @@ mod tests {
         check([0x80, 0x00, 0, 0], -163_840, false, merit);
     }
 
-    /// Examples of 001 §3.8; 01 decides on 0x7FFE and 0x7EEE.
+    /// Examples of 001 §3.8; RULES 'Geometric altitude' decides on 0x7FFE and
+    /// 0x7EEE.
     #[test]
     fn figures_of_merit() {
         check([0, 0, 0xFF, 0xFF], 0, true, Merit::None);

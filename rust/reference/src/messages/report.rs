@@ -131,7 +131,8 @@ impl Position {
         })
     }
 
-    /// None and 0, 0 share their steps: the integrity tells them apart (01).
+    /// None and 0, 0 share their steps: the integrity tells them apart
+    /// (RULES 'Reports').
     fn write(self, integrity: u8) -> Result<(i32, i32), u8> {
         match (self, integrity) {
             (Self::None, 0) => Ok((0, 0)),

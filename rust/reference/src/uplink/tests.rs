@@ -107,7 +107,7 @@ fn other_header_bits_do_not_count() {
     assert_eq!(lengths(&payload), [5]);
 }
 
-/// Value 10 of 01.
+/// Value 10 of RULES 'Values'.
 #[test]
 fn headers_of_01() {
     for (header, length) in [([0x96, 0x00], 300), ([0x00, 0x80], 1), ([0xD3, 0x00], 422)] {

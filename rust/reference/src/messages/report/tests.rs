@@ -2,7 +2,7 @@ use super::super::{read, write, Message};
 use super::*;
 use crate::vectors::SALEM;
 
-/// 001 §3.5.2, value 11 of 01.
+/// 001 §3.5.2, value 11 of RULES 'Values'.
 fn salem() -> Report {
     Report {
         alert: 0,
@@ -91,7 +91,7 @@ fn every_letter_has_its_place() {
     assert_eq!(expected.write(), Ok(fields));
 }
 
-/// 001 §3.5.1.4 and value 9 of 01.
+/// 001 §3.5.1.4 and value 9 of RULES 'Values'.
 #[test]
 fn altitudes() {
     for (bits, feet) in [
@@ -130,7 +130,8 @@ fn speeds() {
     }
 }
 
-/// 001 §3.5.1.8, with 0xFFF for the 0xFFFF it prints, and value 8 of 01.
+/// 001 §3.5.1.8, with 0xFFF for the 0xFFFF it prints, and value 8 of
+/// RULES 'Values'.
 #[test]
 fn climb_examples() {
     for (bits, climb) in [
