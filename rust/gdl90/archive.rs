@@ -5,8 +5,23 @@ use std::collections::BTreeSet;
 use std::fs::{self, File};
 use std::io::ErrorKind;
 use std::path::{Path, PathBuf};
-use std::process::Command;
+use std::process::{Command, ExitCode};
 use std::time::SystemTime;
+
+/// Has cargo link a crate's archive from this folder, or says why it cannot.
+pub fn link(name: &str, folder: Result<PathBuf, String>) -> ExitCode {
+    match folder {
+        Ok(folder) => {
+            println!("cargo:rustc-link-search=native={}", folder.display());
+            println!("cargo:rustc-link-lib=static={name}");
+            ExitCode::SUCCESS
+        }
+        Err(reason) => {
+            eprintln!("{reason}");
+            ExitCode::FAILURE
+        }
+    }
+}
 
 /// The archive is for one machine, and `rt` makes it for no other.
 pub fn check_target() -> Result<(), String> {

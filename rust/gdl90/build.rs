@@ -10,17 +10,7 @@ const ARCHIVE: &str = "libgdl90.a";
 
 fn main() -> ExitCode {
     println!("cargo:rerun-if-env-changed=GDL90_LIB_DIR");
-    match found() {
-        Ok(folder) => {
-            println!("cargo:rustc-link-search=native={}", folder.display());
-            println!("cargo:rustc-link-lib=static=gdl90");
-            ExitCode::SUCCESS
-        }
-        Err(reason) => {
-            eprintln!("{reason}");
-            ExitCode::FAILURE
-        }
-    }
+    archive::link("gdl90", found())
 }
 
 fn found() -> Result<PathBuf, String> {
