@@ -6,13 +6,15 @@ use mathlib.Core.List.{List, [], _∷_, foldl}
 use native.Mathlib.Omega.{arith}
 use lib.ListN.{length, replicate, length-replicate}
 use Rattle.numbers.specs.Bits.{_⊕_, bit}
+use Rattle.numbers.specs.Packing.{bitsOf, bitsIn}
+use Rattle.numbers.proofs.Packing.{bits-in, length-bitsIn}
 use Rattle.numbers.proofs.Every.{every}
 use Rattle.numbers.proofs.Xor.{zero-⊕, ⊕-zero, ⊕-assoc}
 use Rattle.fcs.specs.Fcs.{step, bits, byteStep, fcs}
 use Rattle.fcs.specs.Flips.{flip}
 use Rattle.fcs.specs.Words.{wordOf, halfStep, byHalves}
 use Rattle.fcs.specs.Claims.{HalfBytes}
-use Rattle.fcs.proofs.Division.{are-bits, bits-length, fold-lt}
+use Rattle.fcs.proofs.Division.{fold-lt}
 use Rattle.fcs.proofs.Linearity.{fold-linear}
 use Rattle.fcs.proofs.Shortest.{short}
 use Rattle.fcs.proofs.Sums.{Additive, same, shr, low, shl, plus, after, agree}
@@ -38,11 +40,11 @@ leave-additive k = record { adds = λ x y. apart (replicate k 0) x y ∙ ap (λ 
 divided : (m : List ℕ) (r : ℕ) → foldl step r (bits m) ≡ leave (length m * 8) r ⊕ fcs m
 unfolding fcs
 divided m r =
-    ap (λ (n : ℕ). foldl step n (bits m)) (sym (⊕-zero r)) ∙ apart (bits m) r 0 ∙ ap (λ (n : ℕ). leave n r ⊕ foldl step 0 (bits m)) (bits-length m)
+    ap (λ (n : ℕ). foldl step n (bits m)) (sym (⊕-zero r)) ∙ apart (bits m) r 0 ∙ ap (λ (n : ℕ). leave n r ⊕ foldl step 0 (bits m)) (length-bitsIn 8 m)
 
 -- a word is what its half byte comes back as
 comes-back : (i : ℕ) → wordOf (i % 16) ≡ leave 16 (i % 16)
-unfolding leave fcs bits bit
+unfolding leave fcs bitsOf bitsIn bit
 comes-back i = ap (leave 16) (short .1 (i % 16) (omega arith))
 
 -- half a byte of zero bits more
@@ -76,9 +78,9 @@ half-bytes r b hr hb =
     ∙ sym (divided (b ∷ []) r)
 
 pub two-bytes : (r a b : ℕ) → r < 2 ^ 16 → a < 256 → b < 256 → byHalves (byHalves r a) b ≡ foldl step r (bits (a ∷ b ∷ []))
-unfolding byteStep bits
+unfolding byteStep bitsOf bitsIn
 two-bytes r a b hr ha hb =
-    ap (λ (n : ℕ). byHalves n b) (half-bytes r a hr ha) ∙ half-bytes _ b (fold-lt (bits (a ∷ [])) r (are-bits (a ∷ [])) hr) hb
+    ap (λ (n : ℕ). byHalves n b) (half-bytes r a hr ha) ∙ half-bytes _ b (fold-lt (bits (a ∷ [])) r (bits-in 8 (a ∷ [])) hr) hb
 
 -- the quotient's half bytes, from above: those of r, of `folded r` and, the last two, of `quotientOf r`
 unfoldable pub folded : ℕ → ℕ

@@ -3,6 +3,7 @@
 use mathlib.Core.Path.{refl}
 use Rattle.numbers.specs.Bits.{_⊕_, bit}
 use Rattle.numbers.specs.Signed.{signedIn}
+use Rattle.numbers.specs.Packing.{bitsOf, bitsIn}
 use Rattle.fcs.specs.Fcs.{bits, step, fcs}
 use Rattle.framing.specs.Stuffing.{escape, stuff}
 use Rattle.framing.specs.Frame.{lowFirst, enclosed, frameOf}
@@ -21,9 +22,9 @@ use Rattle.known_answers.specs.Row.{Holds, done, _and_}
 use Rattle.known_answers.specs.Values.{Starred, Examples}
 
 pub starred-hold : Starred
-unfolding Holds _⊕_ bit signedIn bits step fcs escape stuff lowFirst enclosed frameOf collected unescaped inside checked closed taken next answerTo shown reply replyTo answers misfit reading heartbeatIn trackFrom positionOf altitudeOf speedOf climbOf reportIn goodPosition goodReport kindIn readMessage framesBefore walk payloadFrames frameList
+unfolding Holds _⊕_ bit signedIn bitsOf bitsIn step fcs escape stuff lowFirst enclosed frameOf collected unescaped inside checked closed taken next answerTo shown reply replyTo answers misfit reading heartbeatIn trackFrom positionOf altitudeOf speedOf climbOf reportIn goodPosition goodReport kindIn readMessage framesBefore walk payloadFrames frameList
 starred-hold = refl and refl and refl and refl and refl and refl and refl and refl and refl and refl and refl and refl and refl and refl and refl and refl and refl and refl and refl and refl and refl and refl and refl and refl and refl and refl and refl and refl and refl and done
 
 pub examples-hold : Examples
-unfolding Holds _⊕_ bit signedIn bits step fcs escape stuff lowFirst enclosed frameOf misfit reading heartbeatIn trackFrom positionOf altitudeOf speedOf climbOf reportIn goodPosition goodReport kindIn readMessage
+unfolding Holds _⊕_ bit signedIn bitsOf bitsIn step fcs escape stuff lowFirst enclosed frameOf misfit reading heartbeatIn trackFrom positionOf altitudeOf speedOf climbOf reportIn goodPosition goodReport kindIn readMessage
 examples-hold = refl and refl and refl and refl and refl and done

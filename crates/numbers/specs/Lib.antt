@@ -1,4 +1,5 @@
 pub mod Bits
 pub mod Bytes
 pub mod Lent
+pub mod Packing
 pub mod Signed

@@ -4,6 +4,7 @@ use mathlib.Core.Path.{_≡_, sym, ap}
 use native.Mathlib.Omega.{arith}
 use Prim.Native.Nat.{ℕ, zero, suc, _%_, _≤_}
 use Rattle.numbers.specs.Bits.{_⊕_, bit}
+use Rattle.numbers.specs.Packing.{bitsOf, bitsIn}
 use Rattle.fcs.specs.Fcs.{step, bits, fcs}
 use Rattle.fcs.specs.Words.{wordOf}
 use Rattle.fcs.proofs.word.Statement.{statement}
@@ -22,7 +23,7 @@ last : (i : ℕ) → NoneBelow 15 (i % 16) → i % 16 ≡ 15
 last i h = omega (arith, beyond 15 (i % 16) h)
 
 pub word-spec : {M : Type 1} → statement M
-unfolding fcs bits bit step _⊕_
+unfolding fcs bitsOf bitsIn bit step _⊕_
 word-spec =
     tie.close
     (tie.spec

@@ -1,0 +1,82 @@
+-- The list of code characters and its inverse.
+-- Assumes nothing.
+use mathlib.Core.Path.{_≡_, refl, sym, ap, _∙_}
+use mathlib.Core.Bool.{Bool, true, false, cond, _&&_, _||_}
+use Prim.Native.Nat.{ℕ, zero, suc, _+_, _%_, _<_}
+use mathlib.Core.List.{List, [], _∷_}
+use native.Mathlib.Omega.{arith}
+use native.Mathlib.Nat.{zero-add}
+use lib.Dec.{eqb, leb, ltb}
+use lib.ListN.{getD, List·getD-eq-default}
+use borrow.Author.Tests.{eqb-true, ltb-true, ltb-false, leb-true}
+use Rattle.numbers.proofs.Every.{every, at}
+use Rattle.characters.specs.Characters.{characters, characterOf, placeOf, codeOf}
+use Rattle.characters.specs.Claims.{Inverse}
+
+-- every character's byte has the code at which it stands: computed at each of the 64
+computed : (code : ℕ) → code < 64 → (leb (characterOf code) 0 || eqb (codeOf (characterOf code)) code) ≡ true
+unfolding every characterOf codeOf placeOf
+computed code h = at (λ k. leb (characterOf k) 0 || eqb (codeOf (characterOf k)) k) 64 refl code h
+
+pub code-small : (code : ℕ) → 0 < characterOf code → code < 64
+unfolding characterOf
+code-small code h = go (ltb code 64) refl
+  where
+    go : (t : Bool) → ltb code 64 ≡ t → code < 64
+    go true e = ltb-true code 64 e
+    go false e = absurd (omega (arith, List·getD-eq-default characters 0 {n = code} (ltb-false code 64 e)))
+
+pub code-back : (code : ℕ) → 0 < characterOf code → codeOf (characterOf code) ≡ code
+code-back code h = go (leb (characterOf code) 0) (eqb (codeOf (characterOf code)) code) refl refl (computed code (code-small code h))
+  where
+    go : (s t : Bool) → leb (characterOf code) 0 ≡ s → eqb (codeOf (characterOf code)) code ≡ t → (s || t) ≡ true → codeOf (characterOf code) ≡ code
+    go true t e f k = absurd (omega (arith, leb-true (characterOf code) 0 e))
+    go false true e f k = eqb-true _ _ f
+    go false false e f k = cc
+
+-- where a byte was found
+abbrev Place : ℕ → ℕ → List ℕ → ℕ → Type 0
+Place b place cs n = (i : ℕ) × (n ≡ place + i) × (getD cs i 0 ≡ b)
+
+found : (b place : ℕ) (cs : List ℕ) → 0 < placeOf b place cs → Place b place cs (placeOf b place cs)
+unfolding placeOf
+found b place [] h = absurd (omega arith)
+found b place (c ∷ cs) h = go (eqb b c) refl h (found b (suc place) cs)
+  where
+    go : (t : Bool) → eqb b c ≡ t → 0 < cond t place (placeOf b (suc place) cs)
+        → (0 < placeOf b (suc place) cs → Place b (suc place) cs (placeOf b (suc place) cs)) → Place b place (c ∷ cs) (cond t place (placeOf b (suc place) cs))
+    go true e h rest = (0, omega arith, sym (eqb-true b c e))
+    go false e h rest = let f = rest h in (suc (f .0), omega (arith, f .1), f .2)
+
+pub character-back : (b : ℕ) → 0 < codeOf b → characterOf (codeOf b) ≡ b
+unfolding codeOf characterOf
+character-back b h =
+    let f = found b 0 characters h in
+    ap (λ (k : ℕ). getD characters k 0) (f .1 ∙ zero-add (f .0)) ∙ f .2
+
+pub inverse : Inverse
+inverse = (code-back, character-back)
+
+-- 0 is no character's byte
+code-of-zero : codeOf 0 ≡ 0
+unfolding codeOf placeOf
+code-of-zero = refl
+
+pub positive : (b : ℕ) → 0 < codeOf b → 0 < b
+positive zero h = absurd (omega (arith, code-of-zero))
+positive (suc b) h = omega arith
+
+pub code-lt : (b : ℕ) → codeOf b < 64
+code-lt b = go (ltb 0 (codeOf b)) refl
+  where
+    go : (t : Bool) → ltb 0 (codeOf b) ≡ t → codeOf b < 64
+    go true e = let h = ltb-true 0 (codeOf b) e in code-small (codeOf b) (omega (arith, character-back b h, positive b h))
+    go false e = omega (arith, ltb-false 0 (codeOf b) e)
+
+-- what the code tests, computed at each byte
+pub rule : (b : ℕ) → b < 256
+    → cond (eqb b 0x1E) 29 (cond (eqb b 0x0A) 30 (cond ((leb 32 b && leb b 63) || (leb 65 b && leb b 90)) (b % 64) 0)) ≡ codeOf b
+unfolding every codeOf placeOf
+rule b h =
+    eqb-true _ _
+    (at (λ k. eqb (cond (eqb k 0x1E) 29 (cond (eqb k 0x0A) 30 (cond ((leb 32 k && leb k 63) || (leb 65 k && leb k 90)) (k % 64) 0))) (codeOf k)) 256 refl b h)

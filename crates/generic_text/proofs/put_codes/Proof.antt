@@ -1,0 +1,85 @@
+-- `generic_text::put_codes` meets its contract. The loop's invariant: what is left is to store the bytes of the codes that are left.
+-- Assumes nothing.
+use mathlib.Core.Path.{ap, _∙_, _≡_, refl}
+use Prim.Native.Nat.{ℕ, _≤_, _-_}
+use mathlib.Core.List.{List}
+use native.Mathlib.Omega.{arith}
+use lib.ListN.{getD, length}
+use Rattle.numbers.proofs.Storing.{Rest, rest-more, rest-size}
+use Rattle.numbers.specs.Packing.{bitsOf}
+use Rattle.generic_text.specs.Product.{packed}
+use Rattle.generic_text.specs.Cursor.{Even, bytesFrom}
+use Rattle.characters.proofs.Inverse.{code-lt}
+use Rattle.generic_text.proofs.Pushing.{codesLeft, room, pushed, none-left}
+use Rattle.generic_text.proofs.put_codes.Statement.{statement}
+use Rattle.generic_text.proofs.put_codes.Tie as tie
+
+abbrev Inv-loop : tie.InvT-loop
+Inv-loop out₀ text s₀ i₀ out s i = (i ≤ length text) × (length out ≡ length out₀) × Even s × Rest out₀ 4 (packed text) out (s .at) (bytesFrom s (codesLeft text i))
+
+abbrev μ-loop : tie.MeasureT-loop
+μ-loop out₀ text s₀ i₀ out s i = length text - i
+
+loop-holds : tie.Need-loop-holds Inv-loop μ-loop
+unfolding packed bytesFrom bitsOf
+loop-holds c = (omega arith, refl, omega arith, λ last left s. s)
+
+shared-slice-read-code-of : tie.Need-shared-slice-read-code-of Inv-loop μ-loop
+shared-slice-read-code-of c = omega arith
+
+code-of-requires : tie.Need-code-of-requires Inv-loop μ-loop
+code-of-requires c κs = tt
+
+push-requires : tie.Need-push-requires Inv-loop μ-loop
+push-requires c κs =
+    let l = c .before .before .before .before .loop in
+    let a = c .before .before .before .before .before .before .before in
+    let e = c .code-of .ensures in
+    let h = room (a .args .text .now) (l .i) (c .code-of .result) (omega arith) e (l .s) (length (l .out)) (l .inv .2) (omega (arith, rest-size (l .inv .3), a .pre)) in
+    (l .inv .2, omega (arith, code-lt (getD (a .args .text .now) (l .i) 0)), h)
+
+add-i : tie.Need-add-i Inv-loop μ-loop
+add-i c = omega arith
+
+loop-less : tie.Need-loop-less Inv-loop μ-loop
+loop-less c = omega arith
+
+loop-again : tie.Need-loop-again Inv-loop μ-loop
+loop-again c =
+    let p = c .before .before .push .ensures in
+    let l = c .before .before .before .before .before .before .before .loop in
+    let a = c .before .before .before .before .before .before .before .before .before .before in
+    let f = c .before .before .before in
+    (omega arith, c .before .before .push .kept .0 ∙ l .inv .1, p .even, rest-more (p .stored) (rw (pushed (a .args .text .now) (l .i) (f .code-of .result) (omega arith) (f .code-of .ensures) p) at (l .inv .3)))
+
+close-requires : tie.Need-close-requires Inv-loop μ-loop
+close-requires c κs =
+    let l = c .before .before .loop in
+    let a = c .before .before .before .before .before in
+    (l .inv .2, omega (arith, rest-size (l .inv .3), ap (λ (codes : List ℕ). length (bytesFrom (l .s) codes)) (none-left (a .args .text .now) (l .i) (omega arith)), a .pre))
+
+same-length : tie.Need-same-length Inv-loop μ-loop
+same-length c = c .before .before .close .kept .0 ∙ c .before .before .before .before .before .loop .inv .1
+
+returns : tie.Need-returns Inv-loop μ-loop
+returns c =
+    let l = c .before .before .before .before .before .loop in
+    let a = c .before .before .before .before .before .before .before .before in
+    rw (none-left (a .args .text .now) (l .i) (omega arith)) at (l .inv .3) _ _ (c .before .before .close .ensures)
+
+pub put-codes-spec : {M : Type 1} → statement M
+put-codes-spec =
+    tie.close
+    (tie.spec
+    Inv-loop
+    μ-loop
+    loop-holds
+    shared-slice-read-code-of
+    code-of-requires
+    push-requires
+    add-i
+    loop-less
+    loop-again
+    close-requires
+    same-length
+    returns)

@@ -1,0 +1,5 @@
+pub mod Texts
+pub mod Product
+pub mod Answers
+pub mod Cursor
+pub mod Claims

@@ -1,0 +1,26 @@
+-- Numbers of some bits each, one directly behind the other, the high bit first (001 §5.2.2.2).
+-- Assumes nothing.
+use Prim.Native.Nat.{ℕ, zero, suc, _+_, _*_}
+use mathlib.Core.List.{List, [], _∷_, _++_}
+use Rattle.numbers.specs.Bits.{bit}
+
+-- the low `width` bits of a number
+unfoldable pub bitsOf : ℕ → ℕ → List ℕ
+bitsOf zero n = []
+bitsOf (suc k) n = bit k n ∷ bitsOf k n
+
+-- the bits of numbers of `width` bits each
+unfoldable pub bitsIn : ℕ → List ℕ → List ℕ
+bitsIn width [] = []
+bitsIn width (n ∷ ns) = bitsOf width n ++ bitsIn width ns
+
+-- the numbers of `width` bits each in a row of bits: the first lacks `missing` bits behind those that make n.
+-- Bits left over behind the last whole number are not read
+unfoldable pub gather : ℕ → ℕ → ℕ → List ℕ → List ℕ
+gather width n missing [] = []
+gather width n zero (b ∷ bs) = []
+gather width n (suc zero) (b ∷ bs) = (n * 2 + b) ∷ gather width 0 width bs
+gather width n (suc (suc k)) (b ∷ bs) = gather width (n * 2 + b) (suc k) bs
+
+unfoldable pub numbersIn : ℕ → List ℕ → List ℕ
+numbersIn width bs = gather width 0 width bs
