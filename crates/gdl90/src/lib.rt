@@ -20,6 +20,8 @@ ghost use Rattle.units.specs.Degrees.{inDegrees};
 ghost use Rattle.units.specs.Feet.{pressureFeet, geometricFeet, terrainFeet};
 ghost use Rattle.gdl90.specs.Payload.{listAnswer, nthAnswer};
 ghost use Rattle.uplink.specs.declared.Found.the-variants.{Refused};
+ghost use Rattle.generic_text.specs.Product.{textWith};
+ghost use Rattle.gdl90.specs.Texts.{textAnswer, ReadsText, WritesText};
 ghost use Rattle.gdl90.specs.Degrees.{degreesAnswer, ExactAnswer};
 use c_report::FlatReport;
 use c_report::FlatReportRead;
@@ -38,6 +40,7 @@ use collecting::Answer;
 use collecting::Control;
 use collecting::Phase;
 use framing::Framed;
+use generic_text::TextReading;
 use message_types::Heartbeat;
 use message_types::HeartbeatRead;
 use message_types::Initialization;
@@ -532,6 +535,66 @@ pub extern "C" fn gdl90_add(payload: &mut [u8], kind: u8, bytes: &[u8]) -> u8
         Added::Done => 0,
         Added::Refused(k) => k,
     }
+}
+
+// The number; a text's hours, minutes and padding, and how many bytes of it were written, 0 with a refusal.
+#[repr(C)]
+pub struct TextAnswer {
+    pub number: u8,
+    pub hours: u8,
+    pub minutes: u8,
+    pub padding: u8,
+    pub length: usize,
+}
+
+// `generic_text::read`.
+#[no_mangle]
+pub extern "C" fn gdl90_read_text(apdu: &[u8], out: &mut [u8]) -> TextAnswer
+    ensures { λ r. ⌜ ReadsText (now (apdu .entry)) (now (out .entry)) r (now (out .exit)) ⌝ }
+{
+    let reading = generic_text::read(apdu, out);
+    text_answer(reading)
+}
+
+fn text_answer(reading: TextReading) -> TextAnswer
+    ensures { λ r. ⌜ r ≡ textAnswer reading ⌝ }
+{
+    match reading {
+        TextReading::Text {
+            hours,
+            minutes,
+            padding,
+            length,
+        } => TextAnswer {
+            number: 0,
+            hours,
+            minutes,
+            padding,
+            length,
+        },
+        TextReading::Refused(number) => TextAnswer {
+            number,
+            hours: 0,
+            minutes: 0,
+            padding: 0,
+            length: 0,
+        },
+    }
+}
+
+// `generic_text::write`.
+#[no_mangle]
+pub extern "C" fn gdl90_write_text(
+    hours: u8,
+    minutes: u8,
+    padding: u8,
+    text: &[u8],
+    out: &mut [u8],
+) -> WriteAnswer
+    ensures { λ r. ⌜ WritesText (textWith hours minutes padding (now (text .entry))) (now (out .entry)) r (now (out .exit)) ⌝ }
+{
+    let written = generic_text::write(hours, minutes, padding, text, out);
+    write_answer(written)
 }
 
 // Feet, from each of the three units, for every value of its width.
