@@ -11,28 +11,25 @@ pub fn code_of(byte: u8) -> u8
     ensures { λ r. ⌜ r ≡ codeOf byte ⌝ }
 {
     if byte == 0x1E {
-        return 29;
+        29
+    } else if byte == 0x0A {
+        30
+    } else if ((32 <= byte) & (byte <= 63)) | ((65 <= byte) & (byte <= 90)) {
+        byte % 64
+    } else {
+        0
     }
-    if byte == 0x0A {
-        return 30;
-    }
-    let code = byte % 64;
-    if ((32 <= byte) & (byte <= 63)) | ((65 <= byte) & (byte <= 90)) {
-        return code;
-    }
-    0
 }
 
-// The list has every byte of a text.
+// The list has every byte of a text. All are looked at, as then many are at once.
 pub fn are_listed(text: &[u8]) -> bool
     ensures { λ r. ⌜ r ≡ areListed (now (text .entry)) ⌝ }
 {
+    let mut all = true;
     let mut i = 0;
     while i < text.len() {
-        if code_of(text[i]) == 0 {
-            return false;
-        }
+        all = all & (0 < code_of(text[i]));
         i += 1;
     }
-    true
+    all
 }

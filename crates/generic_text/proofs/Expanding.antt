@@ -9,23 +9,16 @@ use lib.ListN.{length, replicate, length-append, length-replicate}
 use Rattle.numbers.specs.Lent.{written, Stored}
 use Rattle.numbers.proofs.Storing.{Rest, rest-more, rest-none, rest-size, from-first}
 use Rattle.generic_text.specs.declared.Cursor.{Cursor}
-use Rattle.generic_text.specs.declared.Token.the-variants as token
+use Rattle.generic_text.specs.declared.Run.{Run}
 use Rattle.generic_text.specs.declared.Measured.the-variants as measure
 use Rattle.generic_text.specs.Texts.{before, textOf}
-use Rattle.generic_text.specs.Cursor.{Even, codesFrom, start, Takes, Fits, charactersIn, measured}
+use Rattle.generic_text.proofs.Texts.{before-none, before-more}
+use Rattle.generic_text.specs.Cursor.{Even, codesFrom, start, Passes, NextRun, Fits, charactersIn, measured}
 
 -- a byte stored, of so many
 pub repeated : (n a : ℕ) → 0 < n → replicate n a ≡ (a ∷ []) ++ replicate (n - 1) a
 repeated zero a h = absurd (omega arith)
 repeated (suc n) a h = let e : n ≡ suc n - 1 = omega arith in ap (λ (k : ℕ). a ∷ replicate k a) e
-
-before-none : (t : Option (List ℕ)) → t ≡ before [] t
-before-none (some t) = refl
-before-none none = refl
-
-before-more : (xs ys : List ℕ) (t : Option (List ℕ)) → before xs (before ys t) ≡ before (xs ++ ys) t
-before-more xs ys (some t) = ap some (sym (append-assoc xs ys t))
-before-more xs ys none = refl
 
 -- bytes before a text, told apart from it
 behind : (xs rest : List ℕ) (t : Option (List ℕ)) → before xs t ≡ some rest → (t ≡ some (charactersIn t)) × (rest ≡ xs ++ charactersIn t)
@@ -44,18 +37,18 @@ module _ (apdu : List ℕ) where
   count-start room = record { passed = []; is = before-none _; counts = omega arith; even = omega arith }
 
   module _ {room n : ℕ} {s : Cursor} (c : Counted room s n) where
-    pub count-more : (b k m : ℕ) (t : Cursor) → Takes apdu (codesFrom apdu s) (token.Run b k t) → m ≡ min (n + k) (room + 1) → Counted room t m
-    count-more b k m t h e = record {
-      passed = c .passed ++ replicate k b;
-      is = c .is ∙ ap (before (c .passed)) (h .0) ∙ before-more (c .passed) (replicate k b) (textOf (codesFrom apdu t));
-      counts = omega (arith, e, c .counts, length-append (c .passed) (replicate k b), length-replicate k b);
-      even = h .2;
+    pub count-more : (xs : List ℕ) (k m : ℕ) {t : Cursor} → length xs ≡ k → Passes apdu (codesFrom apdu s) xs t → m ≡ min (n + k) (room + 1) → Counted room t m
+    count-more xs k m {t} l h e = record {
+      passed = c .passed ++ xs;
+      is = c .is ∙ ap (before (c .passed)) (h .is) ∙ before-more (c .passed) xs (textOf (codesFrom apdu t));
+      counts = omega (arith, e, c .counts, length-append (c .passed) xs);
+      even = h .even;
     }
 
-    pub count-end : Takes apdu (codesFrom apdu s) token.End → measure.Length n ≡ measured (textOf (codesFrom apdu start)) room
+    pub count-end : textOf (codesFrom apdu s) ≡ some [] → measure.Length n ≡ measured (textOf (codesFrom apdu start)) room
     count-end h = sym (ap (λ (t : Option (List ℕ)). measured t room) (c .is ∙ ap (before (c .passed)) h) ∙ ap measure.Length (omega (arith, c .counts, ap length (append-nil (c .passed)))))
 
-    pub count-fault : Takes apdu (codesFrom apdu s) token.Fault → measure.Fault ≡ measured (textOf (codesFrom apdu start)) room
+    pub count-fault : textOf (codesFrom apdu s) ≡ none → measure.Fault ≡ measured (textOf (codesFrom apdu start)) room
     count-fault h = sym (ap (λ (t : Option (List ℕ)). measured t room) (c .is ∙ ap (before (c .passed)) h))
 
   -- the text's bytes were stored before `at`, up to s
@@ -73,21 +66,27 @@ module _ (apdu : List ℕ) where
   expand-start out h = record { rest = _; is = is-text _ _ h .0; stores = λ last left s. s; even = omega arith }
 
   module _ {out left : List ℕ} {s : Cursor} {at : ℕ} (x : Expanded out left s at) where
-    module _ (b k : ℕ) (t : Cursor) (h : Takes apdu (codesFrom apdu s) (token.Run b k t)) where
-      tail : (textOf (codesFrom apdu t) ≡ some (charactersIn (textOf (codesFrom apdu t)))) × (x .rest ≡ replicate k b ++ charactersIn (textOf (codesFrom apdu t)))
-      tail = behind (replicate k b) (x .rest) (textOf (codesFrom apdu t)) (sym (h .0) ∙ x .is)
+    module _ (xs : List ℕ) (k : ℕ) {t : Cursor} (size : length xs ≡ k) (h : Passes apdu (codesFrom apdu s) xs t) where
+      tail : (textOf (codesFrom apdu t) ≡ some (charactersIn (textOf (codesFrom apdu t)))) × (x .rest ≡ xs ++ charactersIn (textOf (codesFrom apdu t)))
+      tail = behind xs (x .rest) (textOf (codesFrom apdu t)) (sym (h .is) ∙ x .is)
 
       pub expand-room : Fits (textOf (codesFrom apdu start)) (length out) → at + k ≤ length out
       expand-room f =
-          omega (arith, rest-size (x .stores), ap length (tail .1), length-append (replicate k b) (charactersIn (textOf (codesFrom apdu t))), length-replicate k b, is-text (textOf (codesFrom apdu start)) (length out) f .1)
+          omega (arith, rest-size (x .stores), ap length (tail .1), length-append xs (charactersIn (textOf (codesFrom apdu t))), is-text (textOf (codesFrom apdu start)) (length out) f .1)
 
-      pub expand-more : {next : ℕ} {after : List ℕ} → Stored left at (replicate k b) next after → Expanded out after t next
-      expand-more stored = record { rest = _; is = tail .0; stores = rest-more stored (rw (tail .1) at (x .stores)); even = h .2 }
+      pub expand-more : {next : ℕ} {after : List ℕ} → Stored left at xs next after → Expanded out after t next
+      expand-more stored = record { rest = _; is = tail .0; stores = rest-more stored (rw (tail .1) at (x .stores)); even = h .even }
 
-    pub expand-end : Fits (textOf (codesFrom apdu start)) (length out) → Takes apdu (codesFrom apdu s) token.End → left ≡ written (charactersIn (textOf (codesFrom apdu start))) out
-    expand-end f h =
+    ended : Fits (textOf (codesFrom apdu start)) (length out) → textOf (codesFrom apdu s) ≡ some [] → left ≡ written (charactersIn (textOf (codesFrom apdu start))) out
+    ended f h =
         let none-left : x .rest ≡ [] = cc (x .is, h) in
         rest-none (rw none-left at (x .stores)) .leaves ∙ from-first (charactersIn (textOf (codesFrom apdu start))) out (is-text (textOf (codesFrom apdu start)) (length out) f .1)
 
-    pub expand-fault : Takes apdu (codesFrom apdu s) token.Fault → ⊥
-    expand-fault h = let z : _≡_ {A = ℕ} 0 1 = cc (x .is, h) in omega arith
+    -- a text that fits is one, so where no byte is next it ends
+    pub expand-end : Fits (textOf (codesFrom apdu start)) (length out) → {r : Run} → NextRun apdu (codesFrom apdu s) r → r .byte ≡ 0
+        → left ≡ written (charactersIn (textOf (codesFrom apdu start))) out
+    expand-end f {r} n z = go (r .times) refl
+      where
+        go : (k : ℕ) → r .times ≡ k → left ≡ written (charactersIn (textOf (codesFrom apdu start))) out
+        go zero e = ended f (n .ends z e)
+        go (suc k) e = absurd (let h = n .faults z (λ t. omega arith) in let z : _≡_ {A = ℕ} 0 1 = cc (x .is, h) in omega arith)

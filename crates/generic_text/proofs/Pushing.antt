@@ -15,9 +15,10 @@ use Rattle.generic_text.specs.declared.Cursor.{Cursor}
 use Rattle.numbers.specs.Packing.{bitsOf, bitsIn, gather, numbersIn}
 use Rattle.characters.specs.Characters.{codeOf}
 use Rattle.generic_text.specs.Product.{headerOf, packed, encode}
-use Rattle.generic_text.specs.Cursor.{Even, bytesFrom, Pushed}
+use Rattle.generic_text.specs.Cursor.{Even, startAt, bytesFrom, codesLeft, threeOf, PutFours, Pushed}
 use Rattle.generic_text.specs.Claims.{Size}
-use Rattle.numbers.proofs.Packing.{next-number, length-bitsIn}
+use Rattle.numbers.proofs.Bytes.{drop-three}
+use Rattle.numbers.proofs.Packing.{next-number, length-bitsIn, bitsIn-append, bits-more, digits-first}
 use Rattle.characters.proofs.Inverse.{code-lt}
 use Rattle.generic_text.proofs.Rewriting.{packed-filled}
 
@@ -89,10 +90,6 @@ module _ {out left : List ℕ} {s t : Cursor} (p : Pushed out s 0 t left) where
   close-room size n h =
       omega (arith, p .stored .ends, ap length (p .rest [] ∙ ap (λ (l : List ℕ). p .bytes ++ l) (closed-one t (p .even) n (p .last))), length-append (p .bytes) (0 ∷ []))
 
--- the codes from character i on, and the closing one
-abbrev pub codesLeft : List ℕ → ℕ → List ℕ
-codesLeft text i = map codeOf (drop i text) ++ (0 ∷ [])
-
 pub none-left : (text : List ℕ) (i : ℕ) → length text ≤ i → codesLeft text i ≡ 0 ∷ []
 none-left text i h = rw (drop-of-length-le text h)
 
@@ -108,6 +105,65 @@ module _ (text : List ℕ) (i r : ℕ) (h : i < length text) (e : r ≡ codeOf (
 
   pub pushed : {s t : Cursor} {out left : List ℕ} (p : Pushed out s r t left) → bytesFrom s (codesLeft text i) ≡ p .bytes ++ bytesFrom t (codesLeft text (i + 1))
   pushed {s} p = ap (bytesFrom s) one-less ∙ p .rest (codesLeft text (i + 1))
+
+-- four codes fill three bytes
+four-filled : (a b c d at next : ℕ) (codes : List ℕ) → a < 64 → b < 64 → c < 64 → d < 64
+    → bytesFrom (startAt at) (a ∷ b ∷ c ∷ d ∷ codes) ≡ threeOf a b c d ++ bytesFrom (startAt next) codes
+unfolding bytesFrom bitsOf
+four-filled a b c d at next codes ha hb hc hd =
+    let n = ((a * 64 + b) * 64 + c) * 64 + d in
+    let rest = bitsIn 6 codes ++ replicate 7 0 in
+    let none : 0 * 64 + a ≡ a = omega arith in
+    let last : n / 1 ≡ n = omega arith in
+    ap (λ (l : List ℕ). numbersIn 8 (l ++ replicate 7 0)) (bitsIn-append 6 (a ∷ b ∷ c ∷ d ∷ []) codes)
+    ∙ ap (numbersIn 8)
+    (append-assoc (bitsIn 6 (a ∷ b ∷ c ∷ d ∷ [])) (bitsIn 6 codes) (replicate 7 0)
+    ∙ bits-more 6 0 0 (a ∷ b ∷ c ∷ d ∷ []) rest (ha, (hb, (hc, (hd, tt))))
+    ∙ ap (λ (k : ℕ). bitsOf 24 (((k * 64 + b) * 64 + c) * 64 + d) ++ rest) none)
+    ∙ digits-first 7 3 n rest
+    ∙ ap (λ (k : ℕ). n / 65536 % 256 ∷ n / 256 % 256 ∷ k % 256 ∷ numbersIn 8 rest) last
+
+module _ {out text : List ℕ} where
+  pub fours-start : PutFours out text 0 4 out
+  unfolding packed bytesFrom bitsOf
+  fours-start = record { bytes = []; stored = record { ends = refl; leaves = refl }; rest = refl }
+
+  module _ {mid : List ℕ} {i at : ℕ} (p : PutFours out text i at mid) (h : i + 4 ≤ length text) where
+    abbrev code : ℕ → ℕ
+    code k = codeOf (getD text (i + k) 0)
+
+    next-four : codesLeft text i ≡ codeOf (getD text i 0) ∷ code 1 ∷ code 2 ∷ code 3 ∷ codesLeft text (i + 4)
+    next-four =
+        let four : suc (i + 3) ≡ i + 4 = omega arith in
+        ap (λ (l : List ℕ). map codeOf l ++ (0 ∷ []))
+        (drop-three text i (omega arith)
+        ∙ ap (λ (l : List ℕ). getD text i 0 ∷ getD text (i + 1) 0 ∷ getD text (i + 2) 0 ∷ l)
+        (drop-cons text (i + 3) 0 (omega arith) ∙ ap (λ (n : ℕ). getD text (i + 3) 0 ∷ drop n text) four))
+
+    left : (next : ℕ) → packed text ≡ p .bytes ++ (threeOf (codeOf (getD text i 0)) (code 1) (code 2) (code 3) ++ bytesFrom (startAt next) (codesLeft text (i + 4)))
+    left next =
+        p .rest
+        ∙ ap (λ (l : List ℕ). p .bytes ++ l)
+        (ap (bytesFrom (startAt at)) next-four
+        ∙ four-filled (codeOf (getD text i 0)) (code 1) (code 2) (code 3) at next (codesLeft text (i + 4)) (code-lt _) (code-lt _) (code-lt _) (code-lt _))
+
+    pub fours-room : 4 + length (packed text) ≤ length out → at + 3 ≤ length out
+    fours-room r = omega (arith, p .stored .ends, ap length (left at), length-append (p .bytes) (threeOf (codeOf (getD text i 0)) (code 1) (code 2) (code 3) ++ bytesFrom (startAt at) (codesLeft text (i + 4))))
+
+    pub fours-more : {next : ℕ} {after : List ℕ} → Stored mid at (threeOf (codeOf (getD text i 0)) (code 1) (code 2) (code 3)) next after → PutFours out text (i + 4) next after
+    fours-more {next} s = record {
+      bytes = p .bytes ++ threeOf (codeOf (getD text i 0)) (code 1) (code 2) (code 3);
+      stored = then (p .stored) s;
+      rest = left next ∙ sym (append-assoc (p .bytes) (threeOf (codeOf (getD text i 0)) (code 1) (code 2) (code 3)) (bytesFrom (startAt next) (codesLeft text (i + 4))));
+    }
+
+-- and what is left behind them
+module _ {out text mid : List ℕ} {i at : ℕ} (p : PutFours out text i at mid) where
+  pub last-room : (size : ℕ) → 4 + length (packed text) ≤ size → at + length (bytesFrom (startAt at) (codesLeft text i)) ≤ size
+  last-room size h = omega (arith, p .stored .ends, ap length (p .rest), length-append (p .bytes) (bytesFrom (startAt at) (codesLeft text i)))
+
+  pub all-put : {next : ℕ} {after : List ℕ} → Stored mid at (bytesFrom (startAt at) (codesLeft text i)) next after → Stored out 4 (packed text) next after
+  all-put s = rw (p .rest) (then (p .stored) s)
 
 -- four codes are three bytes
 pub packed-length : (cs : List ℕ) → length (packed cs) ≡ suc (length cs) - suc (length cs) / 4

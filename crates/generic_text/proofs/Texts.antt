@@ -3,7 +3,7 @@
 use mathlib.Core.Path.{_≡_, refl, sym, ap, ap₂, _∙_, subst}
 use mathlib.Core.Bool.{Bool, true, false, cond}
 use Prim.Native.Nat.{ℕ, zero, suc, _+_, _*_, _/_, _%_, _≤_, _<_}
-use mathlib.Core.List.{List, [], _∷_, _++_, map}
+use mathlib.Core.List.{List, [], _∷_, _++_, append-assoc, append-nil, map}
 use mathlib.Core.Option.{Option, none, some}
 use native.Mathlib.Omega.{arith}
 use lib.Dec.{eqb}
@@ -38,11 +38,26 @@ unfolding textOf
 text-none code [] h k e = simp (ne-eqb code 0 h, eq-eqb (characterOf code) 0 e)
 text-none code (n ∷ cs) h k e = simp (ne-eqb code 0 h, ne-eqb code 28 k, eq-eqb (characterOf code) 0 e)
 
--- characters up to the closing code
+pub before-more : (xs ys : List ℕ) (t : Option (List ℕ)) → before xs (before ys t) ≡ before (xs ++ ys) t
+before-more xs ys (some t) = ap some (sym (append-assoc xs ys t))
+before-more xs ys none = refl
+
+pub before-none : (t : Option (List ℕ)) → t ≡ before [] t
+before-none (some t) = refl
+before-none none = refl
+
+-- characters before a text
+pub text-characters : (codes rest : List ℕ) → AreCharacters codes → textOf (codes ++ rest) ≡ before (map characterOf codes) (textOf rest)
+text-characters [] rest h = before-none (textOf rest)
+text-characters (code ∷ codes) rest h =
+    text-character code (codes ++ rest) (h .0)
+    ∙ ap (before (characterOf code ∷ [])) (text-characters codes rest (h .1))
+    ∙ before-more (characterOf code ∷ []) (map characterOf codes) (textOf rest)
+
+-- and up to the closing code
 pub text-closed : (codes rest : List ℕ) → AreCharacters codes → textOf (codes ++ 0 ∷ rest) ≡ some (map characterOf codes)
-text-closed [] rest h = text-end rest
-text-closed (code ∷ codes) rest h =
-    text-character code (codes ++ 0 ∷ rest) (h .0) ∙ ap (before (characterOf code ∷ [])) (text-closed codes rest (h .1))
+text-closed codes rest h =
+    text-characters codes (0 ∷ rest) h ∙ ap (before (map characterOf codes)) (text-end rest) ∙ ap some (append-nil (map characterOf codes))
 
 -- codes of six bits, the closing one too
 pub codes-small : (codes : List ℕ) → AreCharacters codes → map (λ n. n % 64) (codes ++ (0 ∷ [])) ≡ codes ++ (0 ∷ [])

@@ -1,80 +1,168 @@
--- One code less to read, and one character or one tab of text.
+-- One code less to read, or four; and the characters or the tab that they are.
 -- Assumes nothing.
-use mathlib.Core.Path.{_≡_, sym, ap, _∙_, subst}
-use Prim.Native.Nat.{ℕ, _+_, _*_, _/_, _%_, _^_, _≤_, _<_}
-use mathlib.Core.List.{List, [], _∷_, _++_, append-nil}
+use mathlib.Core.Path.{_≡_, refl, sym, ap, ap₂, _∙_, subst}
+use Prim.Native.Nat.{ℕ, suc, _+_, _-_, _*_, _/_, _%_, _^_, _≤_, _<_}
+use mathlib.Core.Bool.{true, _&&_}
+use mathlib.Core.List.{List, [], _∷_, _++_, append-nil, append-assoc, map}
 use mathlib.Core.Option.{none, some}
 use native.Mathlib.Omega.{arith}
 use native.Mathlib.Numerals.{add-one}
-use lib.ListN.{length, getD, drop, drop-of-length-le}
+use lib.Dec.{ltb}
+use lib.ListN.{length, getD, drop, replicate, length-append, drop-of-length-le}
 use lib.Seq.{drop-cons}
+use borrow.Author.Tests.{ltb-true}
+use Rattle.numbers.specs.Packing.{bitsOf, bitsIn, numbersIn, digits}
+use Rattle.numbers.proofs.Bytes.{drop-three}
+use Rattle.numbers.proofs.Every.{both}
+use Rattle.numbers.proofs.Packing.{number-first, next-number, no-number, length-bitsOf, bits-split, bits-low, bits-more, bitsIn-append, digits-first}
+use Rattle.characters.specs.Characters.{characters, characterOf}
 use Rattle.generic_text.specs.declared.Cursor.{Cursor}
-use Rattle.generic_text.specs.declared.Next.the-variants as next
-use Rattle.generic_text.specs.declared.Token.{Token}
-use Rattle.generic_text.specs.declared.Token.the-variants as token
-use Rattle.numbers.specs.Packing.{bitsOf, bitsIn, numbersIn}
-use Rattle.characters.specs.Characters.{characterOf}
-use Rattle.generic_text.specs.Texts.{before, textOf}
-use Rattle.generic_text.specs.Cursor.{Even, codesFrom, Goes, Takes}
-use Rattle.numbers.proofs.Packing.{number-first, next-number, no-number, length-bitsOf}
-use Rattle.generic_text.proofs.Texts.{text-end, text-character, text-none}
+use Rattle.generic_text.specs.declared.Run.{Run}
+use Rattle.generic_text.specs.Texts.{before, textOf, AreCharacters}
+use Rattle.generic_text.specs.Cursor.{Even, codesFrom, NextCode, Passes, noRun, NextRun, isWhole, NextFour}
+use Rattle.generic_text.proofs.Texts.{text-end, text-character, text-none, text-characters}
 
 module _ (bytes : List ℕ) (s : Cursor) where
   -- the last byte's six bits are a code
-  pub six-left : s .width ≡ 6 → Goes bytes s (next.Code (s .last % 64) (record { at = s .at; last = s .last; width = 0 }))
+  pub six-left : s .width ≡ 6 → NextCode bytes s (record { code = s .last % 64; rest = record { at = s .at; last = s .last; width = 0 } })
   unfolding codesFrom bitsOf
   six-left e =
       let rest = bitsIn 8 (drop (s .at) bytes) in
-      (ap (λ (w : ℕ). numbersIn 6 (bitsOf w (s .last) ++ rest)) e ∙ number-first 5 (s .last) rest, omega arith, omega arith)
+      record {
+        none = λ n. absurd (omega arith);
+        some = λ n. (ap (λ (w : ℕ). numbersIn 6 (bitsOf w (s .last) ++ rest)) e ∙ number-first 5 (s .last) rest, omega arith, omega arith);
+      }
 
   -- a byte more is
   pub byte-more : Even s → (s .width ≡ 6 → ⊥) → s .at < length bytes → getD bytes (s .at) 0 < 256
-      → Goes bytes s (next.Code ((s .last * 256 + getD bytes (s .at) 0) / 2 ^ (s .width + 2) % 64) (record { at = s .at + 1; last = getD bytes (s .at) 0; width = s .width + 2 }))
+      → NextCode bytes s (record {
+        code = (s .last * 256 + getD bytes (s .at) 0) / 2 ^ (s .width + 2) % 64;
+        rest = record { at = s .at + 1; last = getD bytes (s .at) 0; width = s .width + 2 };
+      })
   unfolding codesFrom bitsIn
   byte-more h k l b =
       let x = getD bytes (s .at) 0 in
-      let row : drop (s .at) bytes ≡ x ∷ drop (s .at + 1) bytes = rw (add-one, drop-cons bytes (s .at) 0) in (
-        ap (λ (r : List ℕ). numbersIn 6 (bitsOf (s .width) (s .last) ++ bitsIn 8 r)) row
-            ∙ next-number 5 8 (s .width + 2) (s .width) (s .last) x (bitsIn 8 (drop (s .at + 1) bytes)) (omega arith) (omega arith) b,
-        omega arith,
-        omega arith,
-      )
+      let row : drop (s .at) bytes ≡ x ∷ drop (s .at + 1) bytes = rw (add-one, drop-cons bytes (s .at) 0) in
+      record {
+        none = λ n. absurd (omega arith);
+        some = λ n. (
+          ap (λ (r : List ℕ). numbersIn 6 (bitsOf (s .width) (s .last) ++ bitsIn 8 r)) row
+              ∙ next-number 5 8 (s .width + 2) (s .width) (s .last) x (bitsIn 8 (drop (s .at + 1) bytes)) (omega arith) (omega arith) b,
+          omega arith,
+          omega arith,
+        );
+      }
 
   -- too few bits are left
-  pub at-end : Even s → (s .width ≡ 6 → ⊥) → length bytes ≤ s .at → Goes bytes s next.End
+  pub at-end : Even s → (s .width ≡ 6 → ⊥) → length bytes ≤ s .at → NextCode bytes s (record { code = 64; rest = s })
   unfolding codesFrom bitsIn
-  at-end h k l =
-      ap (λ (r : List ℕ). numbersIn 6 (bitsOf (s .width) (s .last) ++ bitsIn 8 r)) (drop-of-length-le bytes l)
-      ∙ ap (numbersIn 6) (append-nil _)
-      ∙ no-number 5 (bitsOf (s .width) (s .last)) (omega (arith, length-bitsOf (s .width) (s .last)))
+  at-end h k l = record {
+    none = λ n.
+        ap (λ (r : List ℕ). numbersIn 6 (bitsOf (s .width) (s .last) ++ bitsIn 8 r)) (drop-of-length-le bytes l)
+        ∙ ap (numbersIn 6) (append-nil _)
+        ∙ no-number 5 (bitsOf (s .width) (s .last)) (omega (arith, length-bitsOf (s .width) (s .last)));
+    some = λ n. absurd (n refl);
+  }
 
--- of codes that start with one, the token
-module _ (bytes codes : List ℕ) (code : ℕ) (t : Cursor) (e : codes ≡ code ∷ codesFrom bytes t) where
-  pub ends : code ≡ 0 → Takes bytes codes token.End
-  ends z = ap textOf (e ∙ ap (λ (k : ℕ). k ∷ codesFrom bytes t) z) ∙ text-end (codesFrom bytes t)
+-- what a table holds that is the list of code characters
+pub looked-up : (table : List ℕ) (code : ℕ) → table ≡ characters → getD table code 0 ≡ characterOf code
+unfolding characterOf
+looked-up table code e = ap (λ (l : List ℕ). getD l code 0) e
 
-  pub faults : (code ≡ 0 → ⊥) → (code ≡ 28 → ⊥) → characterOf code ≡ 0 → Takes bytes codes token.Fault
-  faults h k z = ap textOf e ∙ text-none code (codesFrom bytes t) h k z
+-- three bytes more are four codes, wherever the bytes' borders lie
+module _ (bytes : List ℕ) (s : Cursor) (h : Even s) (room : s .at ≤ length bytes - 3) (long : 4 ≤ length bytes) (small : (i : ℕ) → getD bytes i 0 < 256) where
+  abbrev byte : ℕ → ℕ
+  byte i = getD bytes (s .at + i) 0
 
-  pub takes : (c : ℕ) → c ≡ characterOf code → (c ≡ 0 → ⊥) → Even t → Takes bytes codes (token.Run c 1 t)
-  takes c f h w = (
-    ap textOf e ∙ text-character code (codesFrom bytes t) (omega arith) ∙ ap (λ (b : ℕ). before (b ∷ []) (textOf (codesFrom bytes t))) (sym f),
-    omega (arith, ap length e),
-    w,
-  )
+  abbrev joined : ℕ
+  joined = ((s .last * 256 + getD bytes (s .at) 0) * 256 + byte 1) * 256 + byte 2
 
-  pub tabs : code ≡ 28 → (r : Token) → Takes bytes (28 ∷ codesFrom bytes t) r → Takes bytes codes r
-  tabs z r = subst (λ (l : List ℕ). Takes bytes l r) (sym (e ∙ ap (λ (k : ℕ). k ∷ codesFrom bytes t) z))
+  abbrev behind : Cursor
+  behind = record { at = s .at + 3; last = byte 2; width = s .width }
 
-pub none-left : (codes : List ℕ) → codes ≡ [] → textOf codes ≡ some []
-unfolding textOf
-none-left codes e = ap textOf e
+  four-codes : codesFrom bytes s ≡ digits 6 4 (joined / 2 ^ s .width) ++ codesFrom bytes behind
+  unfolding codesFrom
+  four-codes =
+      let w = s .width in
+      let rest = bitsIn 8 (drop (s .at + 3) bytes) in
+      let three : List ℕ = getD bytes (s .at) 0 ∷ byte 1 ∷ byte 2 ∷ [] in
+      let size : w + 3 * 8 ≡ 4 * 6 + w = omega arith in
+      ap (λ (r : List ℕ). numbersIn 6 (bitsOf w (s .last) ++ r)) (ap (bitsIn 8) (drop-three bytes (s .at) (omega arith)) ∙ bitsIn-append 8 three (drop (s .at + 3) bytes))
+      ∙ ap (numbersIn 6)
+      (bits-more 8 w (s .last) three rest (small (s .at), (small (s .at + 1), (small (s .at + 2), tt)))
+      ∙ ap (λ (l : List ℕ). l ++ rest) (ap (λ (k : ℕ). bitsOf k joined) size ∙ bits-split (4 * 6) w joined)
+      ∙ append-assoc (bitsOf (4 * 6) (joined / 2 ^ w)) (bitsOf w joined) rest)
+      ∙ digits-first 5 4 (joined / 2 ^ w) (bitsOf w joined ++ rest)
+      ∙ ap (λ (l : List ℕ). digits 6 4 (joined / 2 ^ w) ++ numbersIn 6 (l ++ rest)) (bits-low w 8 ((s .last * 256 + getD bytes (s .at) 0) * 256 + byte 1) (byte 2) (omega arith))
+
+  pub four-more : (table : List ℕ) → table ≡ characters → (m : ℕ) → m ≡ joined / 2 ^ s .width
+      → NextFour bytes s (record {
+        a = getD table (m / 262144 % 64) 0;
+        b = getD table (m / 4096 % 64) 0;
+        c = getD table (m / 64 % 64) 0;
+        d = getD table (m % 64) 0;
+        rest = behind;
+      })
+  four-more table t m e = record {
+    four = λ whole.
+        let x = m / 262144 % 64 in
+        let y = m / 4096 % 64 in
+        let z = m / 64 % 64 in
+        let u = m % 64 in
+        let codes : List ℕ = x ∷ y ∷ z ∷ u ∷ [] in
+        let is : codesFrom bytes s ≡ codes ++ codesFrom bytes behind =
+        four-codes ∙ ap (λ (n : ℕ). digits 6 4 n ++ codesFrom bytes behind) (sym e) ∙ ap (λ (n : ℕ). x ∷ y ∷ z ∷ n % 64 ∷ codesFrom bytes behind) (omega arith) in
+        let p = both (ltb 0 (getD table x 0) && ltb 0 (getD table y 0)) _ whole in
+        let q = both (ltb 0 (getD table x 0)) _ (p .0) in
+        let r = both (ltb 0 (getD table z 0)) _ (p .1) in
+        let positive : (k : ℕ) → ltb 0 (getD table k 0) ≡ true → 0 < characterOf k = λ k f. omega (arith, ltb-true 0 (getD table k 0) f, looked-up table k t) in
+        let all : AreCharacters codes = (positive x (q .0), (positive y (q .1), (positive z (r .0), (positive u (r .1), tt)))) in
+        let same : map characterOf codes ≡ getD table x 0 ∷ getD table y 0 ∷ getD table z 0 ∷ getD table u 0 ∷ [] = rw (looked-up table x t, looked-up table y t, looked-up table z t, looked-up table u t) in
+        record {
+          is = ap textOf is ∙ text-characters codes (codesFrom bytes behind) all ∙ ap (λ (l : List ℕ). before l (textOf (codesFrom bytes behind))) same;
+          fewer = omega (arith, ap length is);
+          even = h;
+        };
+  }
+
+-- of codes that are left
+module _ (bytes codes : List ℕ) where
+  pub run-ends : (rest : Cursor) → textOf codes ≡ some [] → NextRun bytes codes (noRun 0 rest)
+  run-ends rest e = record { run = λ n. absurd (n refl); ends = λ z y. e; faults = λ z n. absurd (n refl) }
+
+  pub run-faults : (rest : Cursor) → textOf codes ≡ none → NextRun bytes codes (noRun 1 rest)
+  run-faults rest e = record { run = λ n. absurd (n refl); ends = λ z y. absurd (omega arith); faults = λ z n. e }
+
+  pub run-passes : (c n : ℕ) (rest : Cursor) → (c ≡ 0 → ⊥) → Passes bytes codes (replicate n c) rest → NextRun bytes codes (record { byte = c; times = n; rest = rest })
+  run-passes c n rest h p = record { run = λ k. p; ends = λ z y. absurd (h z); faults = λ z k. absurd (h z) }
+
+  -- they start with one
+  module _ (code : ℕ) (t : Cursor) (e : codes ≡ code ∷ codesFrom bytes t) where
+    pub ended : code ≡ 0 → textOf codes ≡ some []
+    ended z = ap textOf (e ∙ ap (λ (k : ℕ). k ∷ codesFrom bytes t) z) ∙ text-end (codesFrom bytes t)
+
+    pub no-character : (code ≡ 0 → ⊥) → (code ≡ 28 → ⊥) → characterOf code ≡ 0 → textOf codes ≡ none
+    no-character h k z = ap textOf e ∙ text-none code (codesFrom bytes t) h k z
+
+    pub character-passes : (c : ℕ) → c ≡ characterOf code → (c ≡ 0 → ⊥) → Even t → Passes bytes codes (replicate 1 c) t
+    character-passes c f h v = record {
+      is = ap textOf e ∙ text-character code (codesFrom bytes t) (omega arith) ∙ ap (λ (b : ℕ). before (b ∷ []) (textOf (codesFrom bytes t))) (sym f);
+      fewer = omega (arith, ap length e);
+      even = v;
+    }
+
+    pub tabbed : code ≡ 28 → (r : Run) → NextRun bytes (28 ∷ codesFrom bytes t) r → NextRun bytes codes r
+    tabbed z r = subst (λ (l : List ℕ). NextRun bytes l r) (sym (e ∙ ap (λ (k : ℕ). k ∷ codesFrom bytes t) z))
 
 -- behind a tab
-pub counted : (bytes codes : List ℕ) (n : ℕ) (t : Cursor) → codes ≡ n ∷ codesFrom bytes t → Even t → Takes bytes (28 ∷ codes) (token.Run 32 n t)
+pub counted : (bytes codes : List ℕ) (n : ℕ) (t : Cursor) → codes ≡ n ∷ codesFrom bytes t → Even t → Passes bytes (28 ∷ codes) (replicate n 32) t
 unfolding textOf
-counted bytes codes n t e w = (ap (λ (l : List ℕ). textOf (28 ∷ l)) e, omega (arith, ap length e), w)
+counted bytes codes n t e v = record { is = ap (λ (l : List ℕ). textOf (28 ∷ l)) e; fewer = omega (arith, ap length e); even = v }
 
 pub uncounted : (codes : List ℕ) → codes ≡ [] → textOf (28 ∷ codes) ≡ none
 unfolding textOf characterOf
 uncounted codes e = ap (λ (l : List ℕ). textOf (28 ∷ l)) e
+
+pub none-left : (codes : List ℕ) → codes ≡ [] → textOf codes ≡ some []
+unfolding textOf
+none-left codes e = ap textOf e

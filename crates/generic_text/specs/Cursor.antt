@@ -1,20 +1,23 @@
--- Where textReading stands between two codes, and textWriting between two characters.
+-- Where reading stands between two codes, and writing between two characters.
 -- Assumes nothing.
 use mathlib.Core.Path.{_≡_}
-use Prim.Native.Nat.{ℕ, _+_, _%_, _≤_, _<_, min}
-use mathlib.Core.List.{List, [], _∷_, _++_}
+use Prim.Native.Nat.{ℕ, _+_, _*_, _/_, _%_, _≤_, _<_, min}
+use mathlib.Core.Bool.{Bool, true, _&&_}
+use mathlib.Core.List.{List, [], _∷_, _++_, map}
 use mathlib.Core.Option.{Option, none, some}
+use lib.Dec.{ltb}
 use lib.ListN.{length, drop, replicate}
 use Rattle.numbers.specs.Lent.{Stored}
+use Rattle.numbers.specs.Packing.{bitsOf, bitsIn, numbersIn}
+use Rattle.characters.specs.Characters.{codeOf}
 use Rattle.generic_text.specs.declared.Cursor.{Cursor}
 use Rattle.generic_text.specs.declared.Next.{Next}
-use Rattle.generic_text.specs.declared.Next.the-variants as next
-use Rattle.generic_text.specs.declared.Token.{Token}
-use Rattle.generic_text.specs.declared.Token.the-variants as token
+use Rattle.generic_text.specs.declared.Run.{Run}
+use Rattle.generic_text.specs.declared.Four.{Four}
 use Rattle.generic_text.specs.declared.Measured.{Measured}
 use Rattle.generic_text.specs.declared.Measured.the-variants as measure
-use Rattle.numbers.specs.Packing.{bitsOf, bitsIn, numbersIn}
 use Rattle.generic_text.specs.Texts.{before, textOf}
+use Rattle.generic_text.specs.Product.{packed}
 
 -- of the last byte or code an even number of bits is left, six at most
 abbrev pub Even : Cursor → Type 0
@@ -24,21 +27,40 @@ Even s = (s .width % 2 ≡ 0) × (s .width ≤ 6)
 unfoldable pub codesFrom : List ℕ → Cursor → List ℕ
 codesFrom bytes s = numbersIn 6 (bitsOf (s .width) (s .last) ++ bitsIn 8 (drop (s .at) bytes))
 
+-- no bits are left over
+abbrev pub startAt : ℕ → Cursor
+startAt at = record { at = at; last = 0; width = 0 }
+
 -- behind the header
 abbrev pub start : Cursor
-start = record { at = 4; last = 0; width = 0 }
+start = startAt 4
 
 -- the first code and those behind it, or none
-abbrev pub Goes : List ℕ → Cursor → Next → Type 0
-Goes bytes s (next.Code code t) = (codesFrom bytes s ≡ code ∷ codesFrom bytes t) × (code < 64) × Even t
-Goes bytes s next.End = codesFrom bytes s ≡ []
+pub record NextCode (bytes : List ℕ) (s : Cursor) (r : Next) : Type 0 where
+  pub none : r .code ≡ 64 → codesFrom bytes s ≡ []
+  pub some : (r .code ≡ 64 → ⊥) → (codesFrom bytes s ≡ r .code ∷ codesFrom bytes (r .rest)) × (r .code < 64) × Even (r .rest)
 
--- of codes that are left: a byte so many times before the text of fewer codes; the text's end; or no text
-abbrev pub Takes : List ℕ → List ℕ → Token → Type 0
-Takes bytes codes (token.Run b n t) =
-    (textOf codes ≡ before (replicate n b) (textOf (codesFrom bytes t))) × (length (codesFrom bytes t) < length codes) × Even t
-Takes bytes codes token.End = textOf codes ≡ some []
-Takes bytes codes token.Fault = textOf codes ≡ none
+-- these bytes stand before the text of fewer codes
+pub record Passes (bytes codes passed : List ℕ) (t : Cursor) : Type 0 where
+  pub is : textOf codes ≡ before passed (textOf (codesFrom bytes t))
+  pub fewer : length (codesFrom bytes t) < length codes
+  pub even : Even t
+
+abbrev pub noRun : ℕ → Cursor → Run
+noRun times rest = record { byte = 0; times = times; rest = rest }
+
+-- of codes that are left: a byte so many times, the text's end, or no text
+pub record NextRun (bytes codes : List ℕ) (r : Run) : Type 0 where
+  pub run : (r .byte ≡ 0 → ⊥) → Passes bytes codes (replicate (r .times) (r .byte)) (r .rest)
+  pub ends : r .byte ≡ 0 → r .times ≡ 0 → textOf codes ≡ some []
+  pub faults : r .byte ≡ 0 → (r .times ≡ 0 → ⊥) → textOf codes ≡ none
+
+abbrev pub isWhole : Four → Bool
+isWhole f = (ltb 0 (f .a) && ltb 0 (f .b)) && (ltb 0 (f .c) && ltb 0 (f .d))
+
+-- four characters, where each of the next four codes is one
+pub record NextFour (bytes : List ℕ) (s : Cursor) (r : Four) : Type 0 where
+  pub four : isWhole r ≡ true → Passes bytes (codesFrom bytes s) (r .a ∷ r .b ∷ r .c ∷ r .d ∷ []) (r .rest)
 
 -- the text of a walk's codes fits a room
 abbrev pub Fits : Option (List ℕ) → ℕ → Type 0
@@ -57,6 +79,21 @@ measured none room = measure.Fault
 -- the bytes that are left to write: those of the last code's low bits, of more codes, and of zero bits up to the byte's end
 unfoldable pub bytesFrom : Cursor → List ℕ → List ℕ
 bytesFrom s codes = numbersIn 8 (bitsOf (s .width) (s .last) ++ (bitsIn 6 codes ++ replicate 7 0))
+
+-- the codes from character i on, and the closing one
+abbrev pub codesLeft : List ℕ → ℕ → List ℕ
+codesLeft text i = map codeOf (drop i text) ++ (0 ∷ [])
+
+-- the bytes of four codes
+abbrev pub threeOf : ℕ → ℕ → ℕ → ℕ → List ℕ
+threeOf a b c d =
+    (((a * 64 + b) * 64 + c) * 64 + d) / 65536 % 256 ∷ (((a * 64 + b) * 64 + c) * 64 + d) / 256 % 256 ∷ (((a * 64 + b) * 64 + c) * 64 + d) % 256 ∷ []
+
+-- the bytes of the characters before i, a multiple of four, were stored, and what is left to write behind them
+pub record PutFours (out text : List ℕ) (i at : ℕ) (left : List ℕ) : Type 0 where
+  pub bytes : List ℕ
+  pub stored : Stored out 4 bytes at left
+  pub rest : packed text ≡ bytes ++ bytesFrom (startAt at) (codesLeft text i)
 
 -- a code more taken in, and the byte that it fills, if it fills one, stored
 pub record Pushed (out : List ℕ) (s : Cursor) (code : ℕ) (t : Cursor) (left : List ℕ) : Type 0 where

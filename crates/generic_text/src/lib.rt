@@ -1,14 +1,14 @@
 // The Generic Text product of an information frame (001 §5.2; RULES 'Weather texts'): an APDU header, then characters of six bits.
 ghost use mathlib.Core.Path.{_≡_};
 ghost use mathlib.Core.List.{[], _∷_};
-ghost use Prim.Native.Nat.{_+_, _^_, _≤_, _<_, min};
+ghost use Prim.Native.Nat.{_+_, _-_, _%_, _^_, _≤_, _<_, min};
 ghost use lib.ListN.{length, replicate};
 ghost use Rattle.numbers.specs.Lent.{written, Stored};
 ghost use Rattle.characters.specs.Characters.{characters};
 ghost use Rattle.generic_text.specs.Texts.{textOf};
 ghost use Rattle.generic_text.specs.Product.{decode, isGenericText, hoursIn, minutesIn, paddingIn, isFit, textWith, headerOf, packed};
 ghost use Rattle.generic_text.specs.Answers.{Reads, Writes};
-ghost use Rattle.generic_text.specs.Cursor.{codesFrom, start, Goes, Takes, Fits, charactersIn, measured, bytesFrom, Even, Pushed};
+ghost use Rattle.generic_text.specs.Cursor.{Even, codesFrom, start, NextCode, noRun, NextRun, NextFour, isWhole, Fits, charactersIn, measured, bytesFrom, codesLeft, startAt, Pushed, PutFours, threeOf};
 use codec::Written;
 
 pub enum TextReading {
@@ -23,24 +23,34 @@ pub enum TextReading {
     Refused(u8),
 }
 
-// Where a walk over groups of bits stands: the place of the next byte, and the last byte or code with how many of its low bits
-// are left.
+// Where reading or writing stands: the place of the next byte, and the last byte or code with how many of its low bits are left.
 struct Cursor {
     at: usize,
     last: u8,
     width: u32,
 }
 
-enum Next {
-    Code(u8, Cursor),
-    End,
+// A code, 64 where no whole one is left, and where reading stands behind it.
+struct Next {
+    code: u8,
+    rest: Cursor,
 }
 
-enum Token {
-    // a byte so many times: a character once, or a tab's spaces
-    Run(u8, u8, Cursor),
-    End,
-    Fault,
+// A byte so many times, a character once or a tab's spaces, and where reading stands behind it.
+// Byte 0 is none: the text ends (times 0), or there is no text (times 1).
+struct Run {
+    byte: u8,
+    times: u8,
+    rest: Cursor,
+}
+
+// Four characters, a 0 for a code that is none, and where reading stands behind them.
+struct Four {
+    a: u8,
+    b: u8,
+    c: u8,
+    d: u8,
+    rest: Cursor,
 }
 
 enum Measured {
@@ -92,9 +102,9 @@ fn is_generic_text(a: u8, b: u8, c: u8) -> bool
             & ((b / 2 % 2 == 0) & (b % 2 * 2 + c / 128 == 0)))
 }
 
-// Counts the text's bytes.
+// Counts the text's bytes, four characters at a time where it can.
 fn measure(table: &[u8; 64], apdu: &[u8], room: usize) -> Measured
-    requires { ⌜ (now table ≡ characters) × (room < 2 ^ 63) ⌝ }
+    requires { ⌜ (now table ≡ characters) × (4 ≤ length (now apdu)) × (room < 2 ^ 63) ⌝ }
     ensures { λ r. ⌜ r ≡ measured (textOf (codesFrom (now (apdu .entry)) start)) room ⌝ }
 {
     let mut s = Cursor {
@@ -104,13 +114,20 @@ fn measure(table: &[u8; 64], apdu: &[u8], room: usize) -> Measured
     };
     let mut n = 0;
     loop {
-        match next_token(table, apdu, s) {
-            Token::Run(_, times, rest) => {
-                n = least(n + times as usize, room + 1);
-                s = rest;
+        let four = next_four(table, apdu, s);
+        if is_whole(four) {
+            n = least(n + 4, room + 1);
+            s = four.rest;
+        } else {
+            let run = next_run(table, apdu, s);
+            if run.byte == 0 {
+                if run.times == 0 {
+                    return Measured::Length(n);
+                }
+                return Measured::Fault;
             }
-            Token::End => return Measured::Length(n),
-            Token::Fault => return Measured::Fault,
+            n = least(n + run.times as usize, room + 1);
+            s = run.rest;
         }
     }
 }
@@ -123,7 +140,7 @@ fn least(a: usize, b: usize) -> usize
 
 // Writes the text, for which there is room.
 fn expand(table: &[u8; 64], apdu: &[u8], out: &mut [u8])
-    requires { ⌜ (now table ≡ characters) × Fits (textOf (codesFrom (now apdu) start)) (length (now out)) ⌝ }
+    requires { ⌜ (now table ≡ characters) × (4 ≤ length (now apdu)) × Fits (textOf (codesFrom (now apdu) start)) (length (now out)) ⌝ }
     ensures { λ _. ⌜ now (out .exit) ≡ written (charactersIn (textOf (codesFrom (now (apdu .entry)) start))) (now (out .entry)) ⌝ }
 {
     let mut s = Cursor {
@@ -133,15 +150,31 @@ fn expand(table: &[u8; 64], apdu: &[u8], out: &mut [u8])
     };
     let mut at = 0;
     loop {
-        match next_token(table, apdu, s) {
-            Token::Run(byte, times, rest) => {
-                at = fill(out, at, byte, times);
-                s = rest;
+        let four = next_four(table, apdu, s);
+        if is_whole(four) {
+            at = put_four(out, at, four.a, four.b, four.c, four.d);
+            s = four.rest;
+        } else {
+            let run = next_run(table, apdu, s);
+            if run.byte == 0 {
+                return;
             }
-            Token::End => return,
-            Token::Fault => return,
+            at = fill(out, at, run.byte, run.times);
+            s = run.rest;
         }
     }
+}
+
+// Four bytes from `at` on.
+fn put_four(out: &mut [u8], at: usize, a: u8, b: u8, c: u8, d: u8) -> usize
+    requires { ⌜ at + 4 ≤ length (now out) ⌝ }
+    ensures { λ r. ⌜ Stored (now (out .entry)) at (a ∷ b ∷ c ∷ d ∷ []) r (now (out .exit)) ⌝ }
+{
+    out[at] = a;
+    out[at + 1] = b;
+    out[at + 2] = c;
+    out[at + 3] = d;
+    at + 4
 }
 
 // A byte so many times from `at` on.
@@ -159,64 +192,128 @@ fn fill(out: &mut [u8], at: usize, byte: u8, times: u8) -> usize
     next
 }
 
-// The next character, or a tab's spaces.
-fn next_token(table: &[u8; 64], apdu: &[u8], s: Cursor) -> Token
-    requires { ⌜ (now table ≡ characters) × Even s ⌝ }
-    ensures { λ r. ⌜ Takes (now (apdu .entry)) (codesFrom (now (apdu .entry)) s) r ⌝ }
+// The next four codes' characters: they are three bytes, wherever the bytes' borders lie.
+fn next_four(table: &[u8; 64], apdu: &[u8], s: Cursor) -> Four
+    requires { ⌜ (now table ≡ characters) × (4 ≤ length (now apdu)) × Even s ⌝ }
+    ensures { λ r. ⌜ NextFour (now (apdu .entry)) s r ⌝ }
 {
-    match next_code(apdu, s) {
-        Next::Code(code, rest) => {
-            if code == 0 {
-                return Token::End;
-            }
-            if code == 28 {
-                return spaces(apdu, rest);
-            }
-            let c = table[code as usize];
-            if c == 0 {
-                return Token::Fault;
-            }
-            Token::Run(c, 1, rest)
-        }
-        Next::End => Token::End,
+    let at = s.at;
+    let width = s.width;
+    if apdu.len() - 3 < at {
+        return Four {
+            a: 0,
+            b: 0,
+            c: 0,
+            d: 0,
+            rest: s,
+        };
+    }
+    let last = apdu[at + 2];
+    let before = (s.last as u32) * 256 + apdu[at] as u32;
+    let codes = ((before * 256 + apdu[at + 1] as u32) * 256 + last as u32) >> width;
+    Four {
+        a: table[(codes / 262144 % 64) as usize],
+        b: table[(codes / 4096 % 64) as usize],
+        c: table[(codes / 64 % 64) as usize],
+        d: table[(codes % 64) as usize],
+        rest: Cursor {
+            at: at + 3,
+            last,
+            width,
+        },
+    }
+}
+
+// Each of the four codes is a character's.
+fn is_whole(four: Four) -> bool
+    ensures { λ r. ⌜ r ≡ isWhole four ⌝ }
+{
+    ((0 < four.a) & (0 < four.b)) & ((0 < four.c) & (0 < four.d))
+}
+
+// The next character, or a tab's spaces.
+fn next_run(table: &[u8; 64], apdu: &[u8], s: Cursor) -> Run
+    requires { ⌜ (now table ≡ characters) × Even s ⌝ }
+    ensures { λ r. ⌜ NextRun (now (apdu .entry)) (codesFrom (now (apdu .entry)) s) r ⌝ }
+{
+    let next = next_code(apdu, s);
+    let code = next.code;
+    let rest = next.rest;
+    if code == 64 {
+        return no_run(0, rest);
+    }
+    if code == 0 {
+        return no_run(0, rest);
+    }
+    if code == 28 {
+        return spaces(apdu, rest);
+    }
+    let byte = table[code as usize];
+    if byte == 0 {
+        return no_run(1, rest);
+    }
+    Run {
+        byte,
+        times: 1,
+        rest,
     }
 }
 
 // The spaces of a tab, which its next code counts.
-fn spaces(apdu: &[u8], s: Cursor) -> Token
+fn spaces(apdu: &[u8], s: Cursor) -> Run
     requires { ⌜ Even s ⌝ }
-    ensures { λ r. ⌜ Takes (now (apdu .entry)) (28 ∷ codesFrom (now (apdu .entry)) s) r ⌝ }
+    ensures { λ r. ⌜ NextRun (now (apdu .entry)) (28 ∷ codesFrom (now (apdu .entry)) s) r ⌝ }
 {
-    match next_code(apdu, s) {
-        Next::Code(count, rest) => Token::Run(32, count, rest),
-        Next::End => Token::Fault,
+    let next = next_code(apdu, s);
+    let times = next.code;
+    let rest = next.rest;
+    if times == 64 {
+        return no_run(1, rest);
+    }
+    Run {
+        byte: 32,
+        times,
+        rest,
+    }
+}
+
+fn no_run(times: u8, rest: Cursor) -> Run
+    ensures { λ r. ⌜ r ≡ noRun times rest ⌝ }
+{
+    Run {
+        byte: 0,
+        times,
+        rest,
     }
 }
 
 // The next code of six bits, high bit first.
 fn next_code(apdu: &[u8], s: Cursor) -> Next
     requires { ⌜ Even s ⌝ }
-    ensures { λ r. ⌜ Goes (now (apdu .entry)) s r ⌝ }
+    ensures { λ r. ⌜ NextCode (now (apdu .entry)) s r ⌝ }
 {
     let at = s.at;
     let last = s.last;
     let width = s.width;
     if width == 6 {
-        return Next::Code(last % 64, Cursor { at, last, width: 0 });
+        return Next {
+            code: last % 64,
+            rest: Cursor { at, last, width: 0 },
+        };
     }
     if at < apdu.len() {
         let byte = apdu[at];
         let both = (last as u32) * 256 + byte as u32;
-        return Next::Code(
-            ((both >> (width + 2)) % 64) as u8,
-            Cursor {
+        return Next {
+            code: ((both >> (width + 2)) % 64) as u8,
+            rest: Cursor {
                 at: at + 1,
                 last: byte,
                 width: width + 2,
             },
-        );
+        };
     }
-    Next::End
+    Next { code: 64, rest: s }
 }
 
 // Writes a text with its header to the start of `out`.
@@ -235,10 +332,11 @@ pub fn write(hours: u8, minutes: u8, padding: u8, text: &[u8], out: &mut [u8]) -
         return Written::Refused(9);
     }
     put_header(out, hours, minutes, padding);
-    Written::Bytes(put_codes(out, text))
+    let at = put_fours(out, text);
+    Written::Bytes(put_last(out, at, text))
 }
 
-// The fields of the header fit their bits.
+// Each field of the header fits its bits.
 fn is_fit(hours: u8, minutes: u8, padding: u8) -> bool
     ensures { λ r. ⌜ r ≡ isFit hours minutes padding ⌝ }
 {
@@ -256,17 +354,48 @@ fn put_header(out: &mut [u8], hours: u8, minutes: u8, padding: u8)
     out[3] = minutes % 16 * 16 + padding;
 }
 
-// The characters' codes behind the header, and the closing one.
-fn put_codes(out: &mut [u8], text: &[u8]) -> usize
+// The characters' codes behind the header, as long as there are four.
+fn put_fours(out: &mut [u8], text: &[u8]) -> usize
     requires { ⌜ 4 + length (packed (now text)) ≤ length (now out) ⌝ }
-    ensures { λ r. ⌜ Stored (now (out .entry)) 4 (packed (now (text .entry))) r (now (out .exit)) ⌝ }
+    ensures { λ r. ⌜ PutFours (now (out .entry)) (now (text .entry)) (length (now (text .entry)) - length (now (text .entry)) % 4) r (now (out .exit)) ⌝ }
+{
+    let end = text.len() - text.len() % 4;
+    let mut at = 4;
+    let mut i = 0;
+    while i < end {
+        let a = characters::code_of(text[i]);
+        let b = characters::code_of(text[i + 1]);
+        let c = characters::code_of(text[i + 2]);
+        let d = characters::code_of(text[i + 3]);
+        at = put_three(out, at, a, b, c, d);
+        i += 4;
+    }
+    at
+}
+
+// The three bytes of four codes.
+fn put_three(out: &mut [u8], at: usize, a: u8, b: u8, c: u8, d: u8) -> usize
+    requires { ⌜ (at + 3 ≤ length (now out)) × ((a < 64) × (b < 64) × (c < 64) × (d < 64)) ⌝ }
+    ensures { λ r. ⌜ Stored (now (out .entry)) at (threeOf a b c d) r (now (out .exit)) ⌝ }
+{
+    let codes = (((a as u32) * 64 + b as u32) * 64 + c as u32) * 64 + d as u32;
+    out[at] = (codes / 65536 % 256) as u8;
+    out[at + 1] = (codes / 256 % 256) as u8;
+    out[at + 2] = (codes % 256) as u8;
+    at + 3
+}
+
+// The last characters, fewer than four, and the closing code.
+fn put_last(out: &mut [u8], at: usize, text: &[u8]) -> usize
+    requires { ⌜ at + length (bytesFrom (startAt at) (codesLeft (now text) (length (now text) - length (now text) % 4))) ≤ length (now out) ⌝ }
+    ensures { λ r. ⌜ Stored (now (out .entry)) at (bytesFrom (startAt at) (codesLeft (now (text .entry)) (length (now (text .entry)) - length (now (text .entry)) % 4))) r (now (out .exit)) ⌝ }
 {
     let mut s = Cursor {
-        at: 4,
+        at,
         last: 0,
         width: 0,
     };
-    let mut i = 0;
+    let mut i = text.len() - text.len() % 4;
     while i < text.len() {
         s = push(out, s, characters::code_of(text[i]));
         i += 1;

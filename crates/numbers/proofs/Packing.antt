@@ -2,7 +2,7 @@
 -- Assumes nothing.
 use mathlib.Core.Path.{_≡_, refl, sym, ap, ap₂, _∙_, subst}
 use Prim.Native.Nat.{ℕ, zero, suc, _+_, _-_, _*_, _/_, _%_, _^_, _≤_, _<_}
-use mathlib.Core.List.{List, [], _∷_, _++_, append-assoc, append-nil, map}
+use mathlib.Core.List.{List, [], _∷_, _++_, append-assoc, append-nil, foldl, map}
 use native.Mathlib.Omega.{arith}
 use native.Mathlib.Numerals.{add-one}
 use native.Mathlib.Nat.{zero-add, suc-add, pow-succ', div-div-eq-div-mul, mul-add-div-right, mul-add-mod-self-right}
@@ -12,7 +12,7 @@ use lib.ListN.{length, length-append}
 use lib.Seq.{append-snoc}
 use Rattle.numbers.specs.Bits.{bit, AreBits}
 use Rattle.numbers.proofs.Xor.{bit-lt}
-use Rattle.numbers.specs.Packing.{bitsOf, bitsIn, gather, numbersIn}
+use Rattle.numbers.specs.Packing.{bitsOf, bitsIn, gather, numbersIn, digits}
 
 bit-high : (i j n : ℕ) → bit (i + j) n ≡ bit i (n / 2 ^ j)
 unfolding bit
@@ -144,6 +144,42 @@ gather-none width n (suc k) (b ∷ row) h = gather-none width (n * 2 + b) k row 
 pub no-number : (k : ℕ) (row : List ℕ) → length row ≤ k → numbersIn (suc k) row ≡ []
 unfolding numbersIn
 no-number k row h = gather-none (suc k) 0 k row h
+
+pub bitsIn-append : (w : ℕ) (xs ys : List ℕ) → bitsIn w (xs ++ ys) ≡ bitsIn w xs ++ bitsIn w ys
+unfolding bitsIn
+bitsIn-append w [] ys = refl
+bitsIn-append w (x ∷ xs) ys =
+    ap (λ (l : List ℕ). bitsOf w x ++ l) (bitsIn-append w xs ys) ∙ sym (append-assoc (bitsOf w x) (bitsIn w xs) (bitsIn w ys))
+
+abbrev pub Below : ℕ → List ℕ → Type 0
+Below w [] = Unit {0}
+Below w (n ∷ ns) = (n < 2 ^ w) × Below w ns
+
+-- the bits of numbers behind those of x are those of one number
+pub bits-more : (w i x : ℕ) (ns rest : List ℕ) → Below w ns
+    → bitsOf i x ++ (bitsIn w ns ++ rest) ≡ bitsOf (i + length ns * w) (foldl (λ p n. p * 2 ^ w + n) x ns) ++ rest
+unfolding bitsIn
+bits-more w i x [] rest h = let none : i ≡ i + 0 * w = omega arith in ap (λ (k : ℕ). bitsOf k x ++ rest) none
+bits-more w i x (n ∷ ns) rest h =
+    let y = x * 2 ^ w + n in
+    let size : i + w + length ns * w ≡ i + length (n ∷ ns) * w = omega arith in
+    ap (λ (l : List ℕ). bitsOf i x ++ l) (append-assoc (bitsOf w n) (bitsIn w ns) rest)
+    ∙ sym (append-assoc (bitsOf i x) (bitsOf w n) (bitsIn w ns ++ rest))
+    ∙ ap (λ (l : List ℕ). l ++ (bitsIn w ns ++ rest)) (bits-join i w x n (h .0))
+    ∙ bits-more w (i + w) y ns rest (h .1)
+    ∙ ap (λ (k : ℕ). bitsOf k (foldl (λ p n. p * 2 ^ w + n) y ns) ++ rest) size
+
+-- and in groups of any width they are its digits
+pub digits-first : (k n m : ℕ) (rest : List ℕ) → numbersIn (suc k) (bitsOf (n * suc k) m ++ rest) ≡ digits (suc k) n m ++ numbersIn (suc k) rest
+unfolding bitsOf
+digits-first k zero m rest = let none : 0 * suc k ≡ 0 = omega arith in ap (λ (j : ℕ). numbersIn (suc k) (bitsOf j m ++ rest)) none
+digits-first k (suc n) m rest =
+    let size : suc n * suc k ≡ suc k + n * suc k = omega arith in
+    let more = bitsOf (n * suc k) m in
+    ap (λ (j : ℕ). numbersIn (suc k) (bitsOf j m ++ rest)) size
+    ∙ ap (numbersIn (suc k)) (ap (λ (l : List ℕ). l ++ rest) (bits-split (suc k) (n * suc k) m) ∙ append-assoc (bitsOf (suc k) (m / 2 ^ (n * suc k))) more rest)
+    ∙ number-first k (m / 2 ^ (n * suc k)) (more ++ rest)
+    ∙ ap (λ (l : List ℕ). m / 2 ^ (n * suc k) % 2 ^ suc k ∷ l) (digits-first k n m rest)
 
 -- w bits of x and then j of y, in a group of their own width and the k bits of y that are left
 pub next-number : (i j k w x y : ℕ) (rest : List ℕ) → w + j ≡ suc i + k → k ≤ j → y < 2 ^ j

@@ -22,6 +22,10 @@ then {out} {xs = xs} {ys = ys} {at = at} a b = record {
   leaves = b .leaves ∙ ap₂ (λ (l : List ℕ) (n : ℕ). sets l n ys) (a .leaves) (a .ends) ∙ sym (sets-append xs ys out at);
 }
 
+-- and one more
+pub also : {out mid : List ℕ} {at n : ℕ} (xs : List ℕ) (x next : ℕ) → next ≡ n + 1 → Stored out at xs n mid → Stored out at (xs ++ (x ∷ [])) next (set mid n x)
+also xs x next e s = then s (record { ends = e; leaves = refl })
+
 -- what a loop that stores `bytes` from `at` on has left: storing `rest` from `next` on ends it
 abbrev pub Rest : (out : List ℕ) (at : ℕ) (bytes mid : List ℕ) (next : ℕ) (rest : List ℕ) → Type 0
 Rest out at bytes mid next rest = (last : ℕ) (left : List ℕ) → Stored mid next rest last left → Stored out at bytes last left

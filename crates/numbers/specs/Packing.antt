@@ -1,6 +1,6 @@
 -- Numbers of some bits each, one directly behind the other, the high bit first (001 §5.2.2.2).
 -- Assumes nothing.
-use Prim.Native.Nat.{ℕ, zero, suc, _+_, _*_}
+use Prim.Native.Nat.{ℕ, zero, suc, _+_, _*_, _/_, _%_, _^_}
 use mathlib.Core.List.{List, [], _∷_, _++_}
 use Rattle.numbers.specs.Bits.{bit}
 
@@ -24,3 +24,8 @@ gather width n (suc (suc k)) (b ∷ bs) = gather width (n * 2 + b) (suc k) bs
 
 unfoldable pub numbersIn : ℕ → List ℕ → List ℕ
 numbersIn width bs = gather width 0 width bs
+
+-- the last n numbers of `width` bits each that a number's bits make
+abbrev pub digits : ℕ → ℕ → ℕ → List ℕ
+digits width zero m = []
+digits width (suc n) m = m / 2 ^ (n * width) % 2 ^ width ∷ digits width n m

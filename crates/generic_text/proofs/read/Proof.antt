@@ -51,7 +51,7 @@ expand-requires : tie.Need-expand-requires
 expand-requires c κs =
     let a = c .before .before .before .before .before .before .before .before .before .before .before .before .before .before .before .before .args .apdu .now in
     let t = textOf (codesFrom a start) in
-    (refl, measured-fits t _ _ (sym (c .before .before .before .before .n .given .1) ∙ c .before .before .before .before .before .before .measure .ensures) (c .before .before .if3 .left))
+    (refl, c .before .before .before .before .before .before .before .before .before .before .before .before .before .if1 .left, measured-fits t _ _ (sym (c .before .before .before .before .n .given .1) ∙ c .before .before .before .before .before .before .measure .ensures) (c .before .before .if3 .left))
 
 shared-slice-read-accepted : tie.Need-shared-slice-read-accepted
 shared-slice-read-accepted c = search needs

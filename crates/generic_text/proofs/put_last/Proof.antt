@@ -1,27 +1,30 @@
--- `generic_text::put_codes` meets its contract. The loop's invariant: what is left is to store the bytes of the codes that are left.
+-- `generic_text::put_last` meets its contract. The loop's invariant: what is left is to store the bytes of the codes that are left.
 -- Assumes nothing.
-use mathlib.Core.Path.{ap, _∙_, _≡_, refl}
-use Prim.Native.Nat.{ℕ, _≤_, _-_}
+use mathlib.Core.Path.{_≡_, refl, ap, _∙_}
+use Prim.Native.Nat.{_-_, _%_, _≤_}
 use mathlib.Core.List.{List}
+use Prim.Native.Nat.{ℕ}
 use native.Mathlib.Omega.{arith}
 use lib.ListN.{getD, length}
 use Rattle.numbers.proofs.Storing.{Rest, rest-more, rest-size}
-use Rattle.numbers.specs.Packing.{bitsOf}
-use Rattle.generic_text.specs.Product.{packed}
-use Rattle.generic_text.specs.Cursor.{Even, bytesFrom}
 use Rattle.characters.proofs.Inverse.{code-lt}
-use Rattle.generic_text.proofs.Pushing.{codesLeft, room, pushed, none-left}
-use Rattle.generic_text.proofs.put_codes.Statement.{statement}
-use Rattle.generic_text.proofs.put_codes.Tie as tie
+use Rattle.generic_text.specs.Cursor.{Even, startAt, bytesFrom, codesLeft}
+use Rattle.generic_text.proofs.Pushing.{room, pushed, none-left}
+use Rattle.generic_text.proofs.put_last.Statement.{statement}
+use Rattle.generic_text.proofs.put_last.Tie as tie
 
 abbrev Inv-loop : tie.InvT-loop
-Inv-loop out₀ text s₀ i₀ out s i = (i ≤ length text) × (length out ≡ length out₀) × Even s × Rest out₀ 4 (packed text) out (s .at) (bytesFrom s (codesLeft text i))
+Inv-loop out₀ at text s₀ i₀ out s i =
+    (i ≤ length text) × (length out ≡ length out₀) × Even s
+    × Rest out₀ at (bytesFrom (startAt at) (codesLeft text (length text - length text % 4))) out (s .at) (bytesFrom s (codesLeft text i))
 
 abbrev μ-loop : tie.MeasureT-loop
-μ-loop out₀ text s₀ i₀ out s i = length text - i
+μ-loop out₀ at text s₀ i₀ out s i = length text - i
+
+sub-i : tie.Need-sub-i Inv-loop μ-loop
+sub-i c = omega arith
 
 loop-holds : tie.Need-loop-holds Inv-loop μ-loop
-unfolding packed bytesFrom bitsOf
 loop-holds c = (omega arith, refl, omega arith, λ last left s. s)
 
 shared-slice-read-code-of : tie.Need-shared-slice-read-code-of Inv-loop μ-loop
@@ -67,12 +70,13 @@ returns c =
     let a = c .before .before .before .before .before .before .before .before in
     rw (none-left (a .args .text .now) (l .i) (omega arith)) at (l .inv .3) _ _ (c .before .before .close .ensures)
 
-pub put-codes-spec : {M : Type 1} → statement M
-put-codes-spec =
+pub put-last-spec : {M : Type 1} → statement M
+put-last-spec =
     tie.close
     (tie.spec
     Inv-loop
     μ-loop
+    sub-i
     loop-holds
     shared-slice-read-code-of
     code-of-requires
