@@ -36,6 +36,26 @@ static uint8_t print_initialization(const uint8_t *message, size_t length)
     return read.number;
 }
 
+/* An information frame of type 0 holds a weather text, whose lines are printed, or another product, which is refused with 15. */
+static void print_text(const uint8_t *data, size_t length)
+{
+    static uint8_t text[GDL90_LONGEST_TEXT];
+    struct gdl90_text_answer read = gdl90_read_text(data, length, text, sizeof text);
+
+    if (read.number != 0) {
+        printf("    text refused with %u\n", read.number);
+        return;
+    }
+    printf("    text of %02u:%02u\n", read.hours, read.minutes);
+    for (size_t start = 0, end = 0; end <= read.length; end++) {
+        if (end < read.length && text[end] != '\n' && text[end] != 0x1E)
+            continue;
+        if (start < end) /* a new line and the separator of two records may stand side by side */
+            printf("      %.*s\n", (int)(end - start), (const char *)text + start);
+        start = end + 1;
+    }
+}
+
 static uint8_t print_uplink(const uint8_t *message, size_t length)
 {
     struct gdl90_uplink_read read = gdl90_read_uplink(message, length);
@@ -55,6 +75,8 @@ static uint8_t print_uplink(const uint8_t *message, size_t length)
         struct gdl90_nth_answer frame = gdl90_nth(payload, GDL90_PAYLOAD, n);
 
         printf("  type %u, %zu bytes, from %02X on\n", frame.kind, frame.length, payload[frame.start]);
+        if (frame.kind == 0)
+            print_text(payload + frame.start, frame.length);
     }
     return 0;
 }

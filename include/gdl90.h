@@ -1,15 +1,16 @@
-/* GDL 90 bytes: frames, collecting, messages, uplink payloads, units. Link with libgdl90.a (`rt staticlib gdl90`).
+/* GDL 90 bytes: frames, collecting, messages, uplink payloads, weather texts, units. Link with libgdl90.a (`rt staticlib gdl90`).
 
    Every function takes every input, ends, keeps nothing, and touches nothing but the memory it is given, so any thread may call it.
    A pointer and a length stand for bytes; the pointer is never null, also where the length is 0, and memory to be written overlaps
    no other argument. A bool holds 0 or 1.
 
    `number` in an answer is one of these (RULES 'Numbers', in docs/RULES.md):
-     0  done                        5  check sequence             10  message not of 1 to 436 bytes
-     1  bad escape                  6  empty, or another id       11  a frame runs past the application data
-     2  escape before the flag      7  length                     12  a frame's length over 422
-     3  more than 438 bytes         8  a field outside its range  13  no frame with that number
-     4  1 or 2 bytes                9  output too short
+     0  done                        6  empty, or another id                     12  a frame's length over 422
+     1  bad escape                  7  length                                   13  no frame with that number
+     2  escape before the flag      8  a field outside its range                14  fewer bytes than a text's header
+     3  more than 438 bytes         9  output too short                         15  not a text's header
+     4  1 or 2 bytes               10  message not of 1 to 436 bytes            16  not a text's character
+     5  check sequence             11  a frame runs past the application data
    Of several that apply, the one named first beside a function is given. 12 never is: such a frame is refused with 11 before.
    With 0 only the bytes written change. With any other number every other field of the answer is 0, and memory lent for output is
    as it was. The one exception is gdl90_feed, which goes on behind a refused frame: `control` and `taken` always hold the state and
@@ -29,8 +30,9 @@ extern "C" {
 enum gdl90_length {
     GDL90_LONGEST_MESSAGE = 436, /* id included, without the check sequence */
     GDL90_LONGEST_FRAME = 878,
-    GDL90_ROOM = 438,   /* what collecting needs: the longest message and its check sequence */
-    GDL90_PAYLOAD = 432 /* of an uplink, from the fifth byte of its message on */
+    GDL90_ROOM = 438,          /* what collecting needs: the longest message and its check sequence */
+    GDL90_PAYLOAD = 432,       /* of an uplink, from the fifth byte of its message on */
+    GDL90_LONGEST_TEXT = 17515 /* of an information frame: 422 bytes of data, and in them tabs of 63 spaces */
 };
 
 /* ---- frames */
@@ -228,7 +230,7 @@ struct gdl90_basic_read gdl90_read_basic(const uint8_t *message, size_t message_
 struct gdl90_long_read gdl90_read_long(const uint8_t *message, size_t message_len);
 
 struct gdl90_write_answer {
-    uint8_t number; /* 7 for an uplink's payload not of 432 bytes, 8, 9, 0 */
+    uint8_t number; /* 7 for an uplink's payload not of 432 bytes, 8, 16 for a text's character, 9, 0 */
     size_t length;  /* bytes written */
 };
 
@@ -269,6 +271,31 @@ struct gdl90_nth_answer gdl90_nth(const uint8_t *payload, size_t payload_len, si
 /* One frame more at the list's end, of a type up to 15 and with 1 to 422 bytes of data; the application data are then valid, and
    zero behind it. Answers 7, 11, 8 for another type or length, 9 if there is no room for it, 0. */
 uint8_t gdl90_add(uint8_t *payload, size_t payload_len, uint8_t kind, const uint8_t *data, size_t data_len);
+
+/* ---- weather texts, which information frames of type 0 carry. The type is the caller's to look at, in the `kind` of gdl90_nth. */
+
+/* Hours, minutes and padding are the header's, as they stand there: no time of day is asked for. */
+struct gdl90_text_answer {
+    uint8_t number;  /* 14, 15, 16, 9, 0 */
+    uint8_t hours;   /* 0 to 31 */
+    uint8_t minutes; /* 0 to 63 */
+    uint8_t padding; /* 0 to 15, the header's last four bits */
+    size_t length;   /* of the text: bytes written */
+};
+
+/* The text in a frame's data, payload + start of gdl90_nth, or in any other bytes. It has the letters A to Z, the characters of ASCII
+   from 32, the space, to 63, 0x0A for a new line, and 0x1E between records. A tab becomes its spaces, 0 to 63; no zero byte is put
+   behind the text. GDL90_LONGEST_TEXT bytes are room for that of every frame. Answers 14 for fewer than 4 bytes of data; 15 for a
+   header of another product than 413, with a flag, segmented, or with another time option than 0; 16 for a code that is no character,
+   27 or 31, and for a tab with no count behind it; 9 exactly when the output is shorter than the text; 0. A code 0 ends the text, and
+   what stands behind it is not looked at; else the data's last whole code does. */
+struct gdl90_text_answer gdl90_read_text(const uint8_t *data, size_t data_len, uint8_t *out, size_t out_len);
+
+/* The data of a text, for gdl90_add with type 0: a header of product 413, then the characters' codes, without tabs, a code 0, and
+   zero bits up to the byte's end. n characters take 4 + (n + 1) - (n + 1) / 4 bytes; 556 fill a frame. Answers 8 unless hours are 0
+   to 31, minutes 0 to 63 and padding 0 to 15; 16 for a byte that is no character of a text; 9; 0. */
+struct gdl90_write_answer gdl90_write_text(uint8_t hours, uint8_t minutes, uint8_t padding, const uint8_t *text, size_t text_len,
+                                           uint8_t *out, size_t out_len);
 
 /* ---- units */
 

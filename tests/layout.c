@@ -158,6 +158,16 @@ static void print_payloads(void)
     FIELD(gdl90_nth_answer, length);
 }
 
+static void print_texts(void)
+{
+    STRUCT(gdl90_text_answer);
+    FIELD(gdl90_text_answer, number);
+    FIELD(gdl90_text_answer, hours);
+    FIELD(gdl90_text_answer, minutes);
+    FIELD(gdl90_text_answer, padding);
+    FIELD(gdl90_text_answer, length);
+}
+
 static void print_units(void)
 {
     STRUCT(gdl90_pressure_steps);
@@ -181,6 +191,7 @@ int main(void)
     print_messages();
     print_answers();
     print_payloads();
+    print_texts();
     print_units();
     return 0;
 }

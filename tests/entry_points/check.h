@@ -15,6 +15,7 @@ void check_frames(void);
 void check_messages(void);
 void check_reports(void);
 void check_uplinks(void);
+void check_texts(void);
 
 /* A case handed to a function that several share: a failure names its line too. */
 #define CASE(call) (case_line = __LINE__, (call), case_line = 0)
@@ -61,5 +62,8 @@ void take_back(const char *file, int line, struct lent memory, const uint8_t *by
 
 /* Bytes from hexadecimal digits, in capitals; blanks between them do not count. Answers how many bytes. */
 size_t from_hex(const char *hex, uint8_t *bytes);
+
+/* Application data of 001 §5.2.4, without the zeros that fill them up to 424 bytes: five frames of 67 bytes of data each. */
+extern const char TAF[];
 
 #endif

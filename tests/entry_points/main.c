@@ -39,6 +39,8 @@ struct gdl90_write_answer gdl90_write_long(struct gdl90_long, u8 *, size_t);
 struct gdl90_list_answer gdl90_list(const u8 *, size_t);
 struct gdl90_nth_answer gdl90_nth(const u8 *, size_t, size_t);
 u8 gdl90_add(u8 *, size_t, u8, const u8 *, size_t);
+struct gdl90_text_answer gdl90_read_text(const u8 *, size_t, u8 *, size_t);
+struct gdl90_write_answer gdl90_write_text(u8, u8, u8, const u8 *, size_t, u8 *, size_t);
 int32_t gdl90_pressure_feet(struct gdl90_pressure_steps);
 int32_t gdl90_geometric_feet(struct gdl90_geometric_steps);
 int32_t gdl90_terrain_feet(struct gdl90_feet_above_terrain);
@@ -162,6 +164,7 @@ static void check_constants(void)
     CHECK(GDL90_LONGEST_FRAME, 878);
     CHECK(GDL90_ROOM, 438);
     CHECK(GDL90_PAYLOAD, 432);
+    CHECK(GDL90_LONGEST_TEXT, 17515);
     CHECK(GDL90_HEARTBEAT, 0);
     CHECK(GDL90_INITIALIZATION, 2);
     CHECK(GDL90_UPLINK, 7);
@@ -197,6 +200,7 @@ static void check_sizes(void)
     const struct gdl90_write_answer write = {0, 0};
     const struct gdl90_list_answer list = {0, 0, 0};
     const struct gdl90_nth_answer nth = {0, 0, 0, 0, 0};
+    const struct gdl90_text_answer text = {0, 0, 0, 0, 0};
     const struct gdl90_degrees_answer degrees = {0, 0, 0};
 
     CHECK(sizeof frame, 2 * word);
@@ -225,6 +229,7 @@ static void check_sizes(void)
     CHECK(sizeof write, 2 * word);
     CHECK(sizeof list, 3 * word);
     CHECK(sizeof nth, 3 * word);
+    CHECK(sizeof text, 2 * word);
     CHECK(sizeof degrees, 24);
 }
 
@@ -312,6 +317,7 @@ int main(void)
     check_messages();
     check_reports();
     check_uplinks();
+    check_texts();
     if (checks_failed > 0) {
         printf("%lu checks failed, %lu passed\n", checks_failed, checks_passed);
         return 1;

@@ -9,7 +9,7 @@ use std::fs::File;
 use std::io::{self, BufWriter, ErrorKind, Read, Write};
 use std::process::ExitCode;
 
-use gdl90::{Collector, Error, Message, Received};
+use gdl90::{Collector, Error, Message, Received, Text};
 
 fn main() -> ExitCode {
     let arguments: Vec<_> = std::env::args_os().skip(1).collect();
@@ -94,6 +94,22 @@ fn print_information_frames(out: &mut dyn Write, uplink: &gdl90::Uplink) -> io::
     for (n, frame) in frames.enumerate() {
         let (kind, length) = (frame.kind, frame.data.len());
         writeln!(out, "   information frame {n}: type {kind}, {length} bytes")?;
+        match frame.text() {
+            Some(Ok(text)) => print_text(out, &text)?,
+            Some(Err(error)) => {
+                writeln!(out, "      text refused with {}: {error}", error.number())?
+            }
+            None => {}
+        }
+    }
+    Ok(())
+}
+
+/// Its lines indented; each record starts a line.
+fn print_text(out: &mut dyn Write, text: &Text) -> io::Result<()> {
+    writeln!(out, "      text of {:02}:{:02}", text.hours, text.minutes)?;
+    for line in text.records().flat_map(str::lines) {
+        writeln!(out, "         {line}")?;
     }
     Ok(())
 }

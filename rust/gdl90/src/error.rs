@@ -47,6 +47,14 @@ pub enum Error {
     InformationFrameTooLong = 12,
     /// No information frame has that number.
     NoSuchFrame = 13,
+    /// Data of fewer bytes than a text's header has, four.
+    NoTextHeader = 14,
+    /// A header that is not a weather text's: another product, a flag, segmented,
+    /// or another time option.
+    NotText = 15,
+    /// A code that is no character of a text, a tab with no count behind it, or a
+    /// character to be written that has no code.
+    NoCharacter = 16,
 }
 
 impl Error {
@@ -66,6 +74,9 @@ impl Error {
             11 => Self::PastTheData,
             12 => Self::InformationFrameTooLong,
             13 => Self::NoSuchFrame,
+            14 => Self::NoTextHeader,
+            15 => Self::NotText,
+            16 => Self::NoCharacter,
             _ => return None,
         })
     }
@@ -108,6 +119,9 @@ impl fmt::Display for Error {
             Self::PastTheData => "an information frame runs past the application data",
             Self::InformationFrameTooLong => "an information frame is longer than 422 bytes",
             Self::NoSuchFrame => "no information frame has that number",
+            Self::NoTextHeader => "the data are shorter than a text's header",
+            Self::NotText => "the data are not a weather text",
+            Self::NoCharacter => "a code is no character of a text, or a character has no code",
         })
     }
 }
@@ -122,16 +136,16 @@ mod tests {
     fn numbers_there_and_back() {
         for number in 0..=255 {
             let error = Error::from_number(number);
-            assert_eq!(error.is_some(), (1..=13).contains(&number), "{number}");
+            assert_eq!(error.is_some(), (1..=16).contains(&number), "{number}");
             assert_eq!(error.map_or(number, Error::number), number);
         }
     }
 
     #[test]
     fn every_number_has_words_of_its_own() {
-        let errors = || (1..=13).filter_map(Error::from_number);
+        let errors = || (1..=16).filter_map(Error::from_number);
         let words: std::collections::HashSet<String> = errors().map(|e| e.to_string()).collect();
-        assert_eq!(words.len(), 13);
+        assert_eq!(words.len(), 16);
     }
 
     #[test]
@@ -143,6 +157,6 @@ mod tests {
     #[test]
     #[should_panic(expected = "different versions")]
     fn unknown_numbers_are_not_taken_for_others() {
-        accepted(14, ()).unwrap_err();
+        accepted(17, ()).unwrap_err();
     }
 }

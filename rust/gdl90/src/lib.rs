@@ -1,5 +1,5 @@
 //! GDL 90 bytes, as receivers send them to a moving map: frames, collecting from
-//! a stream, the nine kinds of message, uplink payloads.
+//! a stream, the nine kinds of message, uplink payloads, weather texts.
 //!
 //! The work is done by `libgdl90.a`, which is proved to do what its contracts say
 //! for every input; this crate gives it types. It needs nothing but the standard
@@ -35,7 +35,7 @@
 //! - [`Message`] reads and writes a message as a typed value; [`frame`] and
 //!   [`framed`] make a frame of its bytes.
 //! - [`information_frames`] and [`add_information_frame`] go into an uplink's
-//!   payload.
+//!   payload, and [`Text`] reads and writes the weather text of a frame.
 //! - [`Error`] says why something was refused. Nothing panics, whatever the bytes
 //!   and values, if archive and crate are of one version.
 //!
@@ -53,6 +53,7 @@ mod framing;
 mod message;
 #[allow(unsafe_code)]
 pub mod raw;
+mod text;
 mod units;
 mod uplink;
 
@@ -63,6 +64,7 @@ pub use message::{
     BasicPassThrough, CallSign, Climb, GeometricAltitude, Heartbeat, HeightAboveTerrain,
     Initialization, LongPassThrough, Merit, Message, PassThrough, Report, Speed, TrackKind, Uplink,
 };
+pub use text::{Text, LONGEST_TEXT};
 pub use units::{Degrees, GeometricSteps, Position, PressureSteps, TerrainFeet};
 pub use uplink::{
     add_information_frame, information_frame, information_frames, InformationFrame,

@@ -10,8 +10,8 @@ mod values;
 
 pub use values::{
     id, Basic, DegreesAnswer, FeedAnswer, FeedControl, FrameAnswer, Geometric, Heartbeat, Height,
-    Initialization, ListAnswer, Long, NthAnswer, PassThrough, Read, Report, Uplink, WriteAnswer,
-    BELOW, NONE, NUMBER, OVER,
+    Initialization, ListAnswer, Long, NthAnswer, PassThrough, Read, Report, TextAnswer, Uplink,
+    WriteAnswer, BELOW, NONE, NUMBER, OVER,
 };
 
 use crate::units::{GeometricSteps, PressureSteps, TerrainFeet};
@@ -52,6 +52,21 @@ extern "C" {
         data: *const u8,
         data_len: usize,
     ) -> u8;
+    fn gdl90_read_text(
+        data: *const u8,
+        data_len: usize,
+        out: *mut u8,
+        out_len: usize,
+    ) -> TextAnswer;
+    fn gdl90_write_text(
+        hours: u8,
+        minutes: u8,
+        padding: u8,
+        text: *const u8,
+        text_len: usize,
+        out: *mut u8,
+        out_len: usize,
+    ) -> WriteAnswer;
     fn gdl90_pressure_feet(altitude: PressureSteps) -> i32;
     fn gdl90_geometric_feet(altitude: GeometricSteps) -> i32;
     fn gdl90_terrain_feet(height: TerrainFeet) -> i32;
@@ -201,6 +216,23 @@ pub fn add(payload: &mut [u8], kind: u8, data: &[u8]) -> u8 {
     // SAFETY: each pointer and length are those of one live slice. `payload` is
     // borrowed mutably, so it does not overlap `data`; neither is kept.
     unsafe { gdl90_add(to, payload.len(), kind, from, data.len()) }
+}
+
+/// The weather text in an information frame's data: 14, 15, 16, 9.
+#[inline]
+pub fn read_text(data: &[u8], out: &mut [u8]) -> TextAnswer {
+    // SAFETY: each pointer and length are those of one live slice. `out` is
+    // borrowed mutably, so it does not overlap `data`; neither is kept.
+    unsafe { gdl90_read_text(data.as_ptr(), data.len(), out.as_mut_ptr(), out.len()) }
+}
+
+/// The data of a weather text: 8, 16, 9.
+#[inline]
+pub fn write_text(hours: u8, minutes: u8, padding: u8, text: &[u8], out: &mut [u8]) -> WriteAnswer {
+    let (from, to) = (text.as_ptr(), out.as_mut_ptr());
+    // SAFETY: each pointer and length are those of one live slice. `out` is
+    // borrowed mutably, so it does not overlap `text`; neither is kept.
+    unsafe { gdl90_write_text(hours, minutes, padding, from, text.len(), to, out.len()) }
 }
 
 /// Feet of a report's altitude, 25 feet a step from -1,000 feet on.

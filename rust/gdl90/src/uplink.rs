@@ -3,7 +3,7 @@
 use std::iter::FusedIterator;
 
 use crate::error::{accepted, Error};
-use crate::raw;
+use crate::{raw, Text};
 
 /// Bytes of an uplink payload.
 pub const PAYLOAD_LENGTH: usize = 432;
@@ -17,6 +17,16 @@ pub struct InformationFrame<'a> {
     pub reserved: u8,
     /// The data, a part of the payload.
     pub data: &'a [u8],
+}
+
+impl InformationFrame<'_> {
+    /// The weather text of a frame of type 0; `None` for any other type.
+    ///
+    /// Frames of type 0 carry other products too, such as graphic ones, which are
+    /// refused with [`Error::NotText`]; for the other refusals see [`Text::read`].
+    pub fn text(&self) -> Option<Result<Text<'static>, Error>> {
+        (self.kind == 0).then(|| Text::read(self.data))
+    }
 }
 
 /// The information frames of an uplink payload, in their order.

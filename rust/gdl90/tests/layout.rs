@@ -117,6 +117,12 @@ fn payloads() -> Vec<String> {
     }
 }
 
+fn texts() -> Vec<String> {
+    layout! {
+        gdl90_text_answer: TextAnswer { number, hours, minutes, padding, length }
+    }
+}
+
 fn units() -> Vec<String> {
     layout! {
         gdl90_pressure_steps: PressureSteps { 0 as steps }
@@ -128,7 +134,8 @@ fn units() -> Vec<String> {
 
 #[test]
 fn layouts_agree() {
-    let lines = [frames(), messages(), answers(), payloads(), units()].concat();
+    let sections = [frames, messages, answers, payloads, texts, units];
+    let lines = sections.map(|section| section()).concat();
     assert_eq!(lines, printed_by_c().lines().collect::<Vec<_>>());
 }
 

@@ -94,6 +94,35 @@ fn the_sample_is_printed_as_listed() {
     assert_eq!(lines.next(), None);
 }
 
+/// Its lines as text, record by record; another product, and another type.
+#[test]
+fn texts_are_printed() {
+    let text = gdl90::Text::new(9, 5, 0, "METAR A=\n\x1EMETAR B\n C=\n\x1E").expect("a text");
+    let mut payload = [0; gdl90::PAYLOAD_LENGTH];
+    let data = text.to_vec().expect("data");
+    for (kind, data) in [(0, &data[..]), (0, &[0; 4]), (1, &data)] {
+        gdl90::add_information_frame(&mut payload, kind, data).expect("room");
+    }
+    let (reception, payload) = (None, &payload);
+    let uplink = gdl90::Message::Uplink(gdl90::Uplink { reception, payload });
+    let frame = gdl90::framed(&uplink.to_vec().expect("a message")).expect("a frame");
+    let path = Path::new(env!("CARGO_TARGET_TMPDIR")).join("texts.gdl90");
+    std::fs::write(&path, frame).expect("a file to write");
+    assert_eq!(
+        printed(run(&[&path])).lines().skip(1).collect::<Vec<_>>(),
+        [
+            "   information frame 0: type 0, 22 bytes",
+            "      text of 09:05",
+            "         METAR A=",
+            "         METAR B",
+            "          C=",
+            "   information frame 1: type 0, 4 bytes",
+            "      text refused with 15: the data are not a weather text",
+            "   information frame 2: type 1, 22 bytes",
+        ]
+    );
+}
+
 #[test]
 fn faults_have_a_message_and_a_code() {
     let missing = Path::new("no such recording");

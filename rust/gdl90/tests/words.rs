@@ -3,7 +3,7 @@
 use gdl90::{
     CallSign, Climb, GeometricAltitude, GeometricSteps, Heartbeat, HeightAboveTerrain,
     Initialization, Merit, Message, PassThrough, Position, PressureSteps, Report, Speed,
-    TerrainFeet, TrackKind, Uplink,
+    TerrainFeet, Text, TrackKind, Uplink,
 };
 
 fn assert_words<'a>(message: impl Into<Message<'a>>, words: &str) {
@@ -177,4 +177,16 @@ fn positions_out_of_range() {
     };
     let words = "steps 8388608 and 0: a field is outside its range";
     assert_eq!(position.to_string(), words);
+}
+
+/// In one line, whatever the characters.
+#[test]
+fn texts() {
+    let text = Text::new(9, 5, 3, "FM0400 \"A\" O'CLOCK=\n\x1E").unwrap();
+    assert_eq!(
+        text.to_string(),
+        "text of 09:05, 21 characters: \"FM0400 \\\"A\\\" O'CLOCK=\\n\\u{1e}\""
+    );
+    let text = Text::new(31, 63, 15, "").unwrap();
+    assert_eq!(text.to_string(), "text of 31:63, 0 characters: \"\"");
 }

@@ -1,6 +1,6 @@
-//! Second implementation of GDL 90 framing, collecting, messages, uplink payloads
-//! and the frame lister, written from 001 and the rules (docs/RULES.md) alone, so
-//! that the proved library has something independent to be compared with.
+//! Second implementation of GDL 90 framing, collecting, messages, uplink payloads,
+//! texts and the frame lister, written from 001 and the rules (docs/RULES.md)
+//! alone, so that the proved library has something independent to be compared with.
 
 pub mod collecting;
 pub mod fcs;
@@ -10,6 +10,7 @@ pub mod messages;
 pub mod payloads;
 pub mod recording;
 pub mod samples;
+pub mod text;
 pub mod uplink;
 pub mod vectors;
 pub mod xorshift;

@@ -1,7 +1,7 @@
 //! Speed of the proved library against the reference, in one run, by the time
 //! that the processor works.
-//! One line for each benchmark: name, ns per message (collecting: per byte of
-//! the stream) of each, their ratio. Collecting has a second line, against plain
+//! One line for each benchmark: name, ns per message or text (collecting: per byte
+//! of the stream) of each, their ratio. Collecting has a second line, against plain
 //! Rust that copies what stands between two flags or escapes whole.
 //!
 //! With the name of a stream as its argument it only collects that, 20 times, by
@@ -10,7 +10,8 @@
 use std::hint::black_box;
 
 use compare::clock;
-use gdl90::{raw, Message};
+use compare::texts::{any_codes, forecast, packed, CODES_MAX};
+use gdl90::{raw, Message, Text};
 use reference::collecting::Answer;
 use reference::framing::{Framed, MESSAGE_MAX};
 use reference::messages::{
@@ -20,6 +21,7 @@ use reference::messages::{
 use reference::payloads;
 use reference::recording::{speed_recording, SHAPES};
 use reference::samples::whole;
+use reference::text;
 use reference::uplink::Frame;
 use reference::xorshift::Xorshift;
 
@@ -58,6 +60,9 @@ fn main() {
     let ids = LENGTHS.map(|(id, _)| id);
     let others: Vec<u8> = ids.into_iter().filter(|&id| id != UPLINK_ID).collect();
     measure_typed(&whole_set(&mut random, &others));
+    let full = || packed(&any_codes(&mut random, CODES_MAX));
+    measure_texts("text", &text_set(full));
+    measure_texts("text_short", &text_set(|| forecast(&mut random)));
     for (name, stream) in streams() {
         measure_collect(name, &stream());
     }
@@ -91,6 +96,11 @@ fn payload_set(random: &mut Xorshift) -> Vec<Vec<u8>> {
         count > 0 && reference_add(&mut payload, 0, &ADDED).is_ok()
     });
     good.take(MESSAGES).collect()
+}
+
+/// Data of information frames.
+fn text_set(make: impl FnMut() -> Vec<u8>) -> Vec<Vec<u8>> {
+    std::iter::repeat_with(make).take(MESSAGES).collect()
 }
 
 /// Not inlined, as the proved functions are real calls too.
@@ -155,6 +165,17 @@ fn reference_nth(payload: &[u8], n: usize) -> Result<Frame, u8> {
 #[inline(never)]
 fn reference_add(payload: &mut [u8], frame_type: u8, data: &[u8]) -> Result<(), u8> {
     reference::uplink::add(payload, frame_type, data)
+}
+
+#[inline(never)]
+fn reference_read_text(data: &[u8], out: &mut [u8]) -> Result<text::Text, u8> {
+    text::read(data, out)
+}
+
+/// At the time of 001 §5.2.4.
+#[inline(never)]
+fn reference_write_text(text: &[u8], out: &mut [u8]) -> Result<usize, u8> {
+    text::write(16, 25, 0, text, out)
 }
 
 fn measure_check_sequence(name: &str, messages: &[Vec<u8>]) {
@@ -271,6 +292,27 @@ fn measure_payloads(payloads: &[Vec<u8>]) {
             expected.copy_from_slice(payload);
             reference_add(black_box(&mut expected), 0, &ADDED)
         },
+    );
+}
+
+/// Texts of few tabs, so that they and what is written of them fit the room.
+fn measure_texts(name: &str, set: &[Vec<u8>]) {
+    let (mut proved, mut expected) = ([0; ROOM], [0; ROOM]);
+    measure(
+        &format!("read_{name}"),
+        set,
+        |data| raw::read_text(data, black_box(&mut proved)),
+        |data| reference_read_text(data, black_box(&mut expected)),
+    );
+    let texts = set
+        .iter()
+        .map(|data| Text::read(data).expect("a whole text"));
+    let texts: Vec<Text> = texts.collect();
+    measure(
+        &format!("write_{name}"),
+        &texts,
+        |text| raw::write_text(16, 25, 0, text.as_bytes(), black_box(&mut proved)),
+        |text| reference_write_text(text.as_bytes(), black_box(&mut expected)),
     );
 }
 

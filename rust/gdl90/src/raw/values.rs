@@ -204,6 +204,18 @@ pub struct NthAnswer {
     pub length: usize,
 }
 
+/// Answer of reading a text: the number, what the text's header carries, and the
+/// bytes written, all 0 with a refusal.
+#[repr(C)]
+#[derive(Clone, Copy, Debug, PartialEq, Eq, Default)]
+pub struct TextAnswer {
+    pub number: u8,
+    pub hours: u8,
+    pub minutes: u8,
+    pub padding: u8,
+    pub length: usize,
+}
+
 /// Answer of degrees: the number, and latitude and longitude, 0 and 0 with a
 /// refusal.
 #[repr(C)]
@@ -243,5 +255,13 @@ impl ListAnswer {
     #[inline]
     pub fn result(self) -> Result<usize, Error> {
         accepted(self.number, self.count)
+    }
+}
+
+impl TextAnswer {
+    /// The bytes written.
+    #[inline]
+    pub fn result(self) -> Result<usize, Error> {
+        accepted(self.number, self.length)
     }
 }
