@@ -26,13 +26,17 @@ code-small code h = go (ltb code 64) refl
     go true e = ltb-true code 64 e
     go false e = absurd (omega (arith, List·getD-eq-default characters 0 {n = code} (ltb-false code 64 e)))
 
-pub code-back : (code : ℕ) → 0 < characterOf code → codeOf (characterOf code) ≡ code
-code-back code h = go (leb (characterOf code) 0) (eqb (codeOf (characterOf code)) code) refl refl (computed code (code-small code h))
+-- what a test says of numbers that are not 0
+where-positive : (n x y : ℕ) → (leb n 0 || eqb x y) ≡ true → 0 < n → x ≡ y
+where-positive n x y t h = go (leb n 0) (eqb x y) refl refl t
   where
-    go : (s t : Bool) → leb (characterOf code) 0 ≡ s → eqb (codeOf (characterOf code)) code ≡ t → (s || t) ≡ true → codeOf (characterOf code) ≡ code
-    go true t e f k = absurd (omega (arith, leb-true (characterOf code) 0 e))
+    go : (s t : Bool) → leb n 0 ≡ s → eqb x y ≡ t → (s || t) ≡ true → x ≡ y
+    go true t e f k = absurd (omega (arith, leb-true n 0 e))
     go false true e f k = eqb-true _ _ f
     go false false e f k = cc
+
+pub code-back : (code : ℕ) → 0 < characterOf code → codeOf (characterOf code) ≡ code
+code-back code h = where-positive (characterOf code) _ _ (computed code (code-small code h)) h
 
 -- where a byte was found
 abbrev Place : ℕ → ℕ → List ℕ → ℕ → Type 0
@@ -80,3 +84,11 @@ unfolding every codeOf placeOf
 rule b h =
     eqb-true _ _
     (at (λ k. eqb (cond (eqb k 0x1E) 29 (cond (eqb k 0x0A) 30 (cond ((leb 32 k && leb k 63) || (leb 65 k && leb k 90)) (k % 64) 0))) (codeOf k)) 256 refl b h)
+
+-- and of a byte that the list has
+listed-computed : (b : ℕ) → b < 256 → (leb (codeOf b) 0 || eqb (cond (leb 32 b) (b % 64) (cond (eqb b 0x0A) 30 29)) (codeOf b)) ≡ true
+unfolding every codeOf placeOf
+listed-computed b h = at (λ k. leb (codeOf k) 0 || eqb (cond (leb 32 k) (k % 64) (cond (eqb k 0x0A) 30 29)) (codeOf k)) 256 refl b h
+
+pub listed-rule : (b : ℕ) → b < 256 → 0 < codeOf b → cond (leb 32 b) (b % 64) (cond (eqb b 0x0A) 30 29) ≡ codeOf b
+listed-rule b h k = where-positive (codeOf b) _ _ (listed-computed b h) k

@@ -2,8 +2,9 @@
 -- Assumes nothing.
 use mathlib.Core.Path.{_≡_, refl}
 use mathlib.Core.Bool.{Bool, true, false, _&&_}
-use Prim.Native.Nat.{ℕ, _+_, _≤_, _<_}
+use Prim.Native.Nat.{ℕ, zero, suc, _+_, _≤_, _<_}
 use mathlib.Core.List.{List, [], _∷_, _++_}
+use native.Mathlib.Omega.{arith}
 use native.Mathlib.Numerals.{add-one}
 use lib.Dec.{ltb}
 use lib.ListN.{length, getD, drop, drop-of-length-le}
@@ -33,3 +34,9 @@ pub listed-all : (all : Bool) (bs : List ℕ) (i : ℕ) → length bs ≤ i → 
 unfolding areListed
 listed-all true bs i h = rw (drop-of-length-le bs h)
 listed-all false bs i h = refl
+
+-- each byte of a text that the list has
+pub listed-at : (bs : List ℕ) (i : ℕ) → areListed bs ≡ true → i < length bs → 0 < codeOf (getD bs i 0)
+listed-at [] i e h = absurd (omega arith)
+listed-at (b ∷ bs) zero e h = listed-both b bs e .0
+listed-at (b ∷ bs) (suc i) e h = listed-at bs i (listed-both b bs e .1) (omega arith)

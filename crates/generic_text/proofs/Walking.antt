@@ -14,12 +14,12 @@ use borrow.Author.Tests.{ltb-true}
 use Rattle.numbers.specs.Packing.{bitsOf, bitsIn, numbersIn, digits}
 use Rattle.numbers.proofs.Bytes.{drop-three}
 use Rattle.numbers.proofs.Every.{both}
-use Rattle.numbers.proofs.Packing.{number-first, next-number, no-number, length-bitsOf, bits-split, bits-low, bits-more, bitsIn-append, digits-first}
+use Rattle.numbers.proofs.Packing.{number-first, next-number, no-number, length-bitsOf, bits-more, bitsIn-append, digits-first}
 use Rattle.characters.specs.Characters.{characters, characterOf}
 use Rattle.generic_text.specs.declared.Cursor.{Cursor}
 use Rattle.generic_text.specs.declared.Run.{Run}
 use Rattle.generic_text.specs.Texts.{before, textOf, AreCharacters}
-use Rattle.generic_text.specs.Cursor.{Even, codesFrom, NextCode, Passes, noRun, NextRun, isWhole, NextFour}
+use Rattle.generic_text.specs.Cursor.{Even, codesFrom, startAt, NextCode, Passes, noRun, NextRun, isWhole, noFour, NextFour}
 use Rattle.generic_text.proofs.Texts.{text-end, text-character, text-none, text-characters}
 
 module _ (bytes : List ℕ) (s : Cursor) where
@@ -69,33 +69,33 @@ pub looked-up : (table : List ℕ) (code : ℕ) → table ≡ characters → get
 unfolding characterOf
 looked-up table code e = ap (λ (l : List ℕ). getD l code 0) e
 
--- three bytes more are four codes, wherever the bytes' borders lie
-module _ (bytes : List ℕ) (s : Cursor) (h : Even s) (room : s .at ≤ length bytes - 3) (long : 4 ≤ length bytes) (small : (i : ℕ) → getD bytes i 0 < 256) where
-  abbrev byte : ℕ → ℕ
-  byte i = getD bytes (s .at + i) 0
+pub no-characters : (bytes : List ℕ) (s rest : Cursor) → NextFour bytes s (noFour rest)
+no-characters bytes s rest = record { four = λ e. absurd (let z : _≡_ {A = ℕ} 0 1 = cc in omega arith) }
 
+-- three bytes are four codes
+module _ (bytes : List ℕ) (s : Cursor) (none-left : s .width ≡ 0) (room : s .at ≤ length bytes - 3) (long : 4 ≤ length bytes) (small : (i : ℕ) → getD bytes i 0 < 256) where
   abbrev joined : ℕ
-  joined = ((s .last * 256 + getD bytes (s .at) 0) * 256 + byte 1) * 256 + byte 2
+  joined = (getD bytes (s .at) 0 * 256 + getD bytes (s .at + 1) 0) * 256 + getD bytes (s .at + 2) 0
 
   abbrev behind : Cursor
-  behind = record { at = s .at + 3; last = byte 2; width = s .width }
+  behind = startAt (s .at + 3)
 
-  four-codes : codesFrom bytes s ≡ digits 6 4 (joined / 2 ^ s .width) ++ codesFrom bytes behind
-  unfolding codesFrom
+  four-codes : codesFrom bytes s ≡ digits 6 4 joined ++ codesFrom bytes behind
+  unfolding codesFrom bitsOf
   four-codes =
-      let w = s .width in
-      let rest = bitsIn 8 (drop (s .at + 3) bytes) in
-      let three : List ℕ = getD bytes (s .at) 0 ∷ byte 1 ∷ byte 2 ∷ [] in
-      let size : w + 3 * 8 ≡ 4 * 6 + w = omega arith in
-      ap (λ (r : List ℕ). numbersIn 6 (bitsOf w (s .last) ++ r)) (ap (bitsIn 8) (drop-three bytes (s .at) (omega arith)) ∙ bitsIn-append 8 three (drop (s .at + 3) bytes))
+      let a = getD bytes (s .at) 0 in
+      let b = getD bytes (s .at + 1) 0 in
+      let c = getD bytes (s .at + 2) 0 in
+      let rest = drop (s .at + 3) bytes in
+      let first : 0 * 256 + a ≡ a = omega arith in
+      ap₂ (λ (w : ℕ) (r : List ℕ). numbersIn 6 (bitsOf w (s .last) ++ bitsIn 8 r)) none-left (drop-three bytes (s .at) (omega arith))
       ∙ ap (numbersIn 6)
-      (bits-more 8 w (s .last) three rest (small (s .at), (small (s .at + 1), (small (s .at + 2), tt)))
-      ∙ ap (λ (l : List ℕ). l ++ rest) (ap (λ (k : ℕ). bitsOf k joined) size ∙ bits-split (4 * 6) w joined)
-      ∙ append-assoc (bitsOf (4 * 6) (joined / 2 ^ w)) (bitsOf w joined) rest)
-      ∙ digits-first 5 4 (joined / 2 ^ w) (bitsOf w joined ++ rest)
-      ∙ ap (λ (l : List ℕ). digits 6 4 (joined / 2 ^ w) ++ numbersIn 6 (l ++ rest)) (bits-low w 8 ((s .last * 256 + getD bytes (s .at) 0) * 256 + byte 1) (byte 2) (omega arith))
+      (bitsIn-append 8 (a ∷ b ∷ c ∷ []) rest
+      ∙ bits-more 8 0 0 (a ∷ b ∷ c ∷ []) (bitsIn 8 rest) (small (s .at), (small (s .at + 1), (small (s .at + 2), tt)))
+      ∙ ap (λ (k : ℕ). bitsOf 24 ((k * 256 + b) * 256 + c) ++ bitsIn 8 rest) first)
+      ∙ digits-first 5 4 joined (bitsIn 8 rest)
 
-  pub four-more : (table : List ℕ) → table ≡ characters → (m : ℕ) → m ≡ joined / 2 ^ s .width
+  pub four-more : (table : List ℕ) → table ≡ characters → (m : ℕ) → m ≡ joined
       → NextFour bytes s (record {
         a = getD table (m / 262144 % 64) 0;
         b = getD table (m / 4096 % 64) 0;
@@ -121,7 +121,7 @@ module _ (bytes : List ℕ) (s : Cursor) (h : Even s) (room : s .at ≤ length b
         record {
           is = ap textOf is ∙ text-characters codes (codesFrom bytes behind) all ∙ ap (λ (l : List ℕ). before l (textOf (codesFrom bytes behind))) same;
           fewer = omega (arith, ap length is);
-          even = h;
+          even = omega arith;
         };
   }
 

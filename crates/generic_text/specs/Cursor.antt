@@ -58,6 +58,9 @@ pub record NextRun (bytes codes : List ℕ) (r : Run) : Type 0 where
 abbrev pub isWhole : Four → Bool
 isWhole f = (ltb 0 (f .a) && ltb 0 (f .b)) && (ltb 0 (f .c) && ltb 0 (f .d))
 
+abbrev pub noFour : Cursor → Four
+noFour rest = record { a = 0; b = 0; c = 0; d = 0; rest = rest }
+
 -- four characters, where each of the next four codes is one
 pub record NextFour (bytes : List ℕ) (s : Cursor) (r : Four) : Type 0 where
   pub four : isWhole r ≡ true → Passes bytes (codesFrom bytes s) (r .a ∷ r .b ∷ r .c ∷ r .d ∷ []) (r .rest)

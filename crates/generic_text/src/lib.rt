@@ -1,14 +1,15 @@
 // The Generic Text product of an information frame (001 §5.2; RULES 'Weather texts'): an APDU header, then characters of six bits.
 ghost use mathlib.Core.Path.{_≡_};
+ghost use mathlib.Core.Bool.{true};
 ghost use mathlib.Core.List.{[], _∷_};
 ghost use Prim.Native.Nat.{_+_, _-_, _%_, _^_, _≤_, _<_, min};
 ghost use lib.ListN.{length, replicate};
 ghost use Rattle.numbers.specs.Lent.{written, Stored};
-ghost use Rattle.characters.specs.Characters.{characters};
+ghost use Rattle.characters.specs.Characters.{characters, codeOf, areListed};
 ghost use Rattle.generic_text.specs.Texts.{textOf};
 ghost use Rattle.generic_text.specs.Product.{decode, isGenericText, hoursIn, minutesIn, paddingIn, isFit, textWith, headerOf, packed};
 ghost use Rattle.generic_text.specs.Answers.{Reads, Writes};
-ghost use Rattle.generic_text.specs.Cursor.{Even, codesFrom, start, NextCode, noRun, NextRun, NextFour, isWhole, Fits, charactersIn, measured, bytesFrom, codesLeft, startAt, Pushed, PutFours, threeOf};
+ghost use Rattle.generic_text.specs.Cursor.{Even, codesFrom, start, NextCode, noRun, NextRun, NextFour, isWhole, noFour, Fits, charactersIn, measured, bytesFrom, codesLeft, startAt, Pushed, PutFours, threeOf};
 use codec::Written;
 
 pub enum TextReading {
@@ -192,25 +193,20 @@ fn fill(out: &mut [u8], at: usize, byte: u8, times: u8) -> usize
     next
 }
 
-// The next four codes' characters: they are three bytes, wherever the bytes' borders lie.
+// The characters of the next three bytes' four codes, where no bits are left of the last byte.
 fn next_four(table: &[u8; 64], apdu: &[u8], s: Cursor) -> Four
-    requires { ⌜ (now table ≡ characters) × (4 ≤ length (now apdu)) × Even s ⌝ }
+    requires { ⌜ (now table ≡ characters) × (4 ≤ length (now apdu)) ⌝ }
     ensures { λ r. ⌜ NextFour (now (apdu .entry)) s r ⌝ }
 {
     let at = s.at;
-    let width = s.width;
-    if apdu.len() - 3 < at {
-        return Four {
-            a: 0,
-            b: 0,
-            c: 0,
-            d: 0,
-            rest: s,
-        };
+    if s.width != 0 {
+        return no_four(s);
     }
-    let last = apdu[at + 2];
-    let before = (s.last as u32) * 256 + apdu[at] as u32;
-    let codes = ((before * 256 + apdu[at + 1] as u32) * 256 + last as u32) >> width;
+    if apdu.len() - 3 < at {
+        return no_four(s);
+    }
+    let high = (apdu[at] as u32) * 256 + apdu[at + 1] as u32;
+    let codes = high * 256 + apdu[at + 2] as u32;
     Four {
         a: table[(codes / 262144 % 64) as usize],
         b: table[(codes / 4096 % 64) as usize],
@@ -218,9 +214,21 @@ fn next_four(table: &[u8; 64], apdu: &[u8], s: Cursor) -> Four
         d: table[(codes % 64) as usize],
         rest: Cursor {
             at: at + 3,
-            last,
-            width,
+            last: 0,
+            width: 0,
         },
+    }
+}
+
+fn no_four(rest: Cursor) -> Four
+    ensures { λ r. ⌜ r ≡ noFour rest ⌝ }
+{
+    Four {
+        a: 0,
+        b: 0,
+        c: 0,
+        d: 0,
+        rest,
     }
 }
 
@@ -356,21 +364,35 @@ fn put_header(out: &mut [u8], hours: u8, minutes: u8, padding: u8)
 
 // The characters' codes behind the header, as long as there are four.
 fn put_fours(out: &mut [u8], text: &[u8]) -> usize
-    requires { ⌜ 4 + length (packed (now text)) ≤ length (now out) ⌝ }
+    requires { ⌜ (4 + length (packed (now text)) ≤ length (now out)) × (areListed (now text) ≡ true) ⌝ }
     ensures { λ r. ⌜ PutFours (now (out .entry)) (now (text .entry)) (length (now (text .entry)) - length (now (text .entry)) % 4) r (now (out .exit)) ⌝ }
 {
     let end = text.len() - text.len() % 4;
     let mut at = 4;
     let mut i = 0;
     while i < end {
-        let a = characters::code_of(text[i]);
-        let b = characters::code_of(text[i + 1]);
-        let c = characters::code_of(text[i + 2]);
-        let d = characters::code_of(text[i + 3]);
+        let a = listed_code(text[i]);
+        let b = listed_code(text[i + 1]);
+        let c = listed_code(text[i + 2]);
+        let d = listed_code(text[i + 3]);
         at = put_three(out, at, a, b, c, d);
         i += 4;
     }
     at
+}
+
+// The code of a byte that the list has: most are their own code, or 64 more.
+fn listed_code(byte: u8) -> u8
+    requires { ⌜ 0 < codeOf byte ⌝ }
+    ensures { λ r. ⌜ r ≡ codeOf byte ⌝ }
+{
+    if 32 <= byte {
+        return byte % 64;
+    }
+    if byte == 0x0A {
+        return 30;
+    }
+    29
 }
 
 // The three bytes of four codes.
@@ -387,7 +409,7 @@ fn put_three(out: &mut [u8], at: usize, a: u8, b: u8, c: u8, d: u8) -> usize
 
 // The last characters, fewer than four, and the closing code.
 fn put_last(out: &mut [u8], at: usize, text: &[u8]) -> usize
-    requires { ⌜ at + length (bytesFrom (startAt at) (codesLeft (now text) (length (now text) - length (now text) % 4))) ≤ length (now out) ⌝ }
+    requires { ⌜ (at + length (bytesFrom (startAt at) (codesLeft (now text) (length (now text) - length (now text) % 4))) ≤ length (now out)) × (areListed (now text) ≡ true) ⌝ }
     ensures { λ r. ⌜ Stored (now (out .entry)) at (bytesFrom (startAt at) (codesLeft (now (text .entry)) (length (now (text .entry)) - length (now (text .entry)) % 4))) r (now (out .exit)) ⌝ }
 {
     let mut s = Cursor {
@@ -397,7 +419,7 @@ fn put_last(out: &mut [u8], at: usize, text: &[u8]) -> usize
     };
     let mut i = text.len() - text.len() % 4;
     while i < text.len() {
-        s = push(out, s, characters::code_of(text[i]));
+        s = push(out, s, listed_code(text[i]));
         i += 1;
     }
     close(out, s)

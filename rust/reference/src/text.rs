@@ -92,8 +92,8 @@ pub fn write(
 }
 
 /// Whether data are of the closed form: a text's header, codes of characters
-/// without tabs, one code 0, and zero bits up to the byte's end (RULES 'Weather
-/// texts'). Looks at the bits itself, without `read` and `write`.
+/// without tabs, one code 0, and zero bits up to the byte's end
+/// (RULES 'Weather texts'). Looks at the bits itself, without `read` and `write`.
 pub fn is_closed(data: &[u8]) -> bool {
     // No flag, product 413, not segmented, time option 0 (001 §5.2.2.1).
     let [0x06, 0x74, 0x00..=0x7F, _, packed @ ..] = data else {

@@ -6,6 +6,7 @@ use native.Mathlib.Omega.{arith}
 use lib.ListN.{length, getD}
 use Rattle.characters.specs.Characters.{codeOf}
 use Rattle.characters.proofs.Inverse.{code-lt}
+use Rattle.characters.proofs.Listed.{listed-at}
 use Rattle.generic_text.specs.Cursor.{PutFours}
 use Rattle.generic_text.proofs.Pushing.{fours-start, fours-room, fours-more}
 use Rattle.generic_text.proofs.put_fours.Statement.{statement}
@@ -26,45 +27,45 @@ sub-end c = omega arith
 loop-holds : tie.Need-loop-holds Inv-loop μ-loop
 loop-holds c = (refl, omega arith, refl, fours-start)
 
-shared-slice-read-code-of : tie.Need-shared-slice-read-code-of Inv-loop μ-loop
-shared-slice-read-code-of c = omega arith
+shared-slice-read-listed-code : tie.Need-shared-slice-read-listed-code Inv-loop μ-loop
+shared-slice-read-listed-code c = omega arith
 
-code-of-requires : tie.Need-code-of-requires Inv-loop μ-loop
-code-of-requires c κs = tt
+listed-code-requires : tie.Need-listed-code-requires Inv-loop μ-loop
+listed-code-requires c κs = listed-at _ (c .before .before .loop .i) (c .before .before .before .before .before .pre .1) (omega arith)
 
-add-code-of : tie.Need-add-code-of Inv-loop μ-loop
-add-code-of c = omega arith
+add-listed-code : tie.Need-add-listed-code Inv-loop μ-loop
+add-listed-code c = omega arith
 
-shared-slice-read-code-of-2 : tie.Need-shared-slice-read-code-of-2 Inv-loop μ-loop
-shared-slice-read-code-of-2 c = omega arith
+shared-slice-read-listed-code-2 : tie.Need-shared-slice-read-listed-code-2 Inv-loop μ-loop
+shared-slice-read-listed-code-2 c = omega arith
 
-code-of-requires-2 : tie.Need-code-of-requires-2 Inv-loop μ-loop
-code-of-requires-2 c κs = tt
+listed-code-requires-2 : tie.Need-listed-code-requires-2 Inv-loop μ-loop
+listed-code-requires-2 c κs = listed-at _ (c .before .before .before .before .loop .i + 1) (c .before .before .before .before .before .before .before .pre .1) (omega arith)
 
-add-code-of-2 : tie.Need-add-code-of-2 Inv-loop μ-loop
-add-code-of-2 c = omega arith
+add-listed-code-2 : tie.Need-add-listed-code-2 Inv-loop μ-loop
+add-listed-code-2 c = omega arith
 
-shared-slice-read-code-of-3 : tie.Need-shared-slice-read-code-of-3 Inv-loop μ-loop
-shared-slice-read-code-of-3 c = omega arith
+shared-slice-read-listed-code-3 : tie.Need-shared-slice-read-listed-code-3 Inv-loop μ-loop
+shared-slice-read-listed-code-3 c = omega arith
 
-code-of-requires-3 : tie.Need-code-of-requires-3 Inv-loop μ-loop
-code-of-requires-3 c κs = tt
+listed-code-requires-3 : tie.Need-listed-code-requires-3 Inv-loop μ-loop
+listed-code-requires-3 c κs = listed-at _ (c .before .before .before .before .before .before .loop .i + 2) (c .before .before .before .before .before .before .before .before .before .pre .1) (omega arith)
 
-add-code-of-3 : tie.Need-add-code-of-3 Inv-loop μ-loop
-add-code-of-3 c = omega arith
+add-listed-code-3 : tie.Need-add-listed-code-3 Inv-loop μ-loop
+add-listed-code-3 c = omega arith
 
-shared-slice-read-code-of-4 : tie.Need-shared-slice-read-code-of-4 Inv-loop μ-loop
-shared-slice-read-code-of-4 c = omega arith
+shared-slice-read-listed-code-4 : tie.Need-shared-slice-read-listed-code-4 Inv-loop μ-loop
+shared-slice-read-listed-code-4 c = omega arith
 
-code-of-requires-4 : tie.Need-code-of-requires-4 Inv-loop μ-loop
-code-of-requires-4 c κs = tt
+listed-code-requires-4 : tie.Need-listed-code-requires-4 Inv-loop μ-loop
+listed-code-requires-4 c κs = listed-at _ (c .before .before .before .before .before .before .before .before .loop .i + 3) (c .before .before .before .before .before .before .before .before .before .before .before .pre .1) (omega arith)
 
 put-three-requires : tie.Need-put-three-requires Inv-loop μ-loop
 put-three-requires c κs =
     let l = c .before .before .before .before .before .before .before .before .before .before in
     let a = l .before .before .before in
-    let r = fours-room (l .loop .inv .3) (omega arith) (a .pre) in
-    (omega (arith, l .loop .inv .2), (small _ _ (c .before .before .before .before .before .before .before .code-of .ensures), small _ _ (c .before .before .before .before .before .code-of2 .ensures), small _ _ (c .before .before .before .code-of3 .ensures), small _ _ (c .before .code-of4 .ensures)))
+    let r = fours-room (l .loop .inv .3) (omega arith) (a .pre .0) in
+    (omega (arith, l .loop .inv .2), (small _ _ (c .before .before .before .before .before .before .before .listed-code .ensures), small _ _ (c .before .before .before .before .before .listed-code2 .ensures), small _ _ (c .before .before .before .listed-code3 .ensures), small _ _ (c .before .listed-code4 .ensures)))
 
 add-i : tie.Need-add-i Inv-loop μ-loop
 add-i c = omega arith
@@ -76,7 +77,7 @@ loop-again : tie.Need-loop-again Inv-loop μ-loop
 loop-again c =
     let l = c .before .before .before .before .before .before .before .before .before .before .before .before .before .loop in
     let p = c .before .before .put-three in
-    let three = rw (c .before .before .before .before .before .before .before .before .before .before .code-of .ensures, c .before .before .before .before .before .before .before .before .code-of2 .ensures, c .before .before .before .before .before .before .code-of3 .ensures, c .before .before .before .before .code-of4 .ensures) at (p .ensures) in
+    let three = rw (c .before .before .before .before .before .before .before .before .before .before .listed-code .ensures, c .before .before .before .before .before .before .before .before .listed-code2 .ensures, c .before .before .before .before .before .before .listed-code3 .ensures, c .before .before .before .before .listed-code4 .ensures) at (p .ensures) in
     (omega arith, omega arith, p .kept .0 ∙ l .inv .2, fours-more (l .inv .3) (omega arith) three)
 
 same-length : tie.Need-same-length Inv-loop μ-loop
@@ -96,17 +97,17 @@ put-fours-spec =
     μ-loop
     sub-end
     loop-holds
-    shared-slice-read-code-of
-    code-of-requires
-    add-code-of
-    shared-slice-read-code-of-2
-    code-of-requires-2
-    add-code-of-2
-    shared-slice-read-code-of-3
-    code-of-requires-3
-    add-code-of-3
-    shared-slice-read-code-of-4
-    code-of-requires-4
+    shared-slice-read-listed-code
+    listed-code-requires
+    add-listed-code
+    shared-slice-read-listed-code-2
+    listed-code-requires-2
+    add-listed-code-2
+    shared-slice-read-listed-code-3
+    listed-code-requires-3
+    add-listed-code-3
+    shared-slice-read-listed-code-4
+    listed-code-requires-4
     put-three-requires
     add-i
     loop-less

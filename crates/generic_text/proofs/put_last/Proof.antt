@@ -8,6 +8,7 @@ use native.Mathlib.Omega.{arith}
 use lib.ListN.{getD, length}
 use Rattle.numbers.proofs.Storing.{Rest, rest-more, rest-size}
 use Rattle.characters.proofs.Inverse.{code-lt}
+use Rattle.characters.proofs.Listed.{listed-at}
 use Rattle.generic_text.specs.Cursor.{Even, startAt, bytesFrom, codesLeft}
 use Rattle.generic_text.proofs.Pushing.{room, pushed, none-left}
 use Rattle.generic_text.proofs.put_last.Statement.{statement}
@@ -27,18 +28,18 @@ sub-i c = omega arith
 loop-holds : tie.Need-loop-holds Inv-loop μ-loop
 loop-holds c = (omega arith, refl, omega arith, λ last left s. s)
 
-shared-slice-read-code-of : tie.Need-shared-slice-read-code-of Inv-loop μ-loop
-shared-slice-read-code-of c = omega arith
+shared-slice-read-listed-code : tie.Need-shared-slice-read-listed-code Inv-loop μ-loop
+shared-slice-read-listed-code c = omega arith
 
-code-of-requires : tie.Need-code-of-requires Inv-loop μ-loop
-code-of-requires c κs = tt
+listed-code-requires : tie.Need-listed-code-requires Inv-loop μ-loop
+listed-code-requires c κs = let l = c .before .before .before in listed-at _ (l .loop .i) (l .before .before .before .pre .1) (omega arith)
 
 push-requires : tie.Need-push-requires Inv-loop μ-loop
 push-requires c κs =
     let l = c .before .before .before .before .loop in
     let a = c .before .before .before .before .before .before .before in
-    let e = c .code-of .ensures in
-    let h = room (a .args .text .now) (l .i) (c .code-of .result) (omega arith) e (l .s) (length (l .out)) (l .inv .2) (omega (arith, rest-size (l .inv .3), a .pre)) in
+    let e = c .listed-code .ensures in
+    let h = room (a .args .text .now) (l .i) (c .listed-code .result) (omega arith) e (l .s) (length (l .out)) (l .inv .2) (omega (arith, rest-size (l .inv .3), a .pre .0)) in
     (l .inv .2, omega (arith, code-lt (getD (a .args .text .now) (l .i) 0)), h)
 
 add-i : tie.Need-add-i Inv-loop μ-loop
@@ -53,13 +54,13 @@ loop-again c =
     let l = c .before .before .before .before .before .before .before .loop in
     let a = c .before .before .before .before .before .before .before .before .before .before in
     let f = c .before .before .before in
-    (omega arith, c .before .before .push .kept .0 ∙ l .inv .1, p .even, rest-more (p .stored) (rw (pushed (a .args .text .now) (l .i) (f .code-of .result) (omega arith) (f .code-of .ensures) p) at (l .inv .3)))
+    (omega arith, c .before .before .push .kept .0 ∙ l .inv .1, p .even, rest-more (p .stored) (rw (pushed (a .args .text .now) (l .i) (f .listed-code .result) (omega arith) (f .listed-code .ensures) p) at (l .inv .3)))
 
 close-requires : tie.Need-close-requires Inv-loop μ-loop
 close-requires c κs =
     let l = c .before .before .loop in
     let a = c .before .before .before .before .before in
-    (l .inv .2, omega (arith, rest-size (l .inv .3), ap (λ (codes : List ℕ). length (bytesFrom (l .s) codes)) (none-left (a .args .text .now) (l .i) (omega arith)), a .pre))
+    (l .inv .2, omega (arith, rest-size (l .inv .3), ap (λ (codes : List ℕ). length (bytesFrom (l .s) codes)) (none-left (a .args .text .now) (l .i) (omega arith)), a .pre .0))
 
 same-length : tie.Need-same-length Inv-loop μ-loop
 same-length c = c .before .before .close .kept .0 ∙ c .before .before .before .before .before .loop .inv .1
@@ -78,8 +79,8 @@ put-last-spec =
     μ-loop
     sub-i
     loop-holds
-    shared-slice-read-code-of
-    code-of-requires
+    shared-slice-read-listed-code
+    listed-code-requires
     push-requires
     add-i
     loop-less
