@@ -1,7 +1,7 @@
 -- The list of code characters and its inverse.
 -- Assumes nothing.
 use mathlib.Core.Path.{_≡_, refl, sym, ap, _∙_}
-use mathlib.Core.Bool.{Bool, true, false, cond, _&&_, _||_}
+use mathlib.Core.Bool.{Bool, true, false, cond, not, _&&_, _||_}
 use Prim.Native.Nat.{ℕ, zero, suc, _+_, _%_, _<_}
 use mathlib.Core.List.{List, [], _∷_}
 use native.Mathlib.Omega.{arith}
@@ -10,7 +10,7 @@ use lib.Dec.{eqb, leb, ltb}
 use lib.ListN.{getD, List·getD-eq-default}
 use borrow.Author.Tests.{eqb-true, ltb-true, ltb-false, leb-true}
 use Rattle.numbers.proofs.Every.{every, at}
-use Rattle.characters.specs.Characters.{characters, characterOf, placeOf, codeOf}
+use Rattle.characters.specs.Characters.{characters, characterOf, placeOf, codeOf, isListed}
 use Rattle.characters.specs.Claims.{Inverse}
 
 -- every character's byte has the code at which it stands: computed at each of the 64
@@ -92,3 +92,20 @@ listed-computed b h = at (λ k. leb (codeOf k) 0 || eqb (cond (leb 32 k) (k % 64
 
 pub listed-rule : (b : ℕ) → b < 256 → 0 < codeOf b → cond (leb 32 b) (b % 64) (cond (eqb b 0x0A) 30 29) ≡ codeOf b
 listed-rule b h k = where-positive (codeOf b) _ _ (listed-computed b h) k
+
+-- which bytes it has
+abbrev tests : ℕ → Bool
+tests b = ((leb 32 b && leb b 90) && not (eqb b 64)) || (eqb b 0x1E || eqb b 0x0A)
+
+tests-computed : (b : ℕ) → b < 256 → cond (tests b) (isListed b) (not (isListed b)) ≡ true
+unfolding every codeOf placeOf
+tests-computed b h = at (λ k. cond (tests k) (isListed k) (not (isListed k))) 256 refl b h
+
+same : (x y : Bool) → cond x y (not y) ≡ true → x ≡ y
+same true true e = refl
+same true false e = cc
+same false true e = cc
+same false false e = refl
+
+pub listed-test : (b : ℕ) → b < 256 → tests b ≡ isListed b
+listed-test b h = same (tests b) (isListed b) (tests-computed b h)

@@ -11,7 +11,7 @@ use lib.ListN.{length, getD, drop, drop-of-length-le}
 use lib.Seq.{drop-cons}
 use borrow.Author.Tests.{lt-ltb, ltb-true}
 use Rattle.numbers.proofs.Every.{both}
-use Rattle.characters.specs.Characters.{codeOf, areListed}
+use Rattle.characters.specs.Characters.{codeOf, isListed, areListed}
 
 pub listed-both : (b : ℕ) (bs : List ℕ) → areListed (b ∷ bs) ≡ true → (0 < codeOf b) × (areListed bs ≡ true)
 unfolding areListed
@@ -23,9 +23,9 @@ listed-append [] ys e f = f
 listed-append (x ∷ xs) ys e f =
     let p = listed-both x xs e in simp (lt-ltb 0 (codeOf x) (p .0), listed-append xs ys (p .1) f)
 
--- one byte more seen, whose code is r
-pub listed-next : (all : Bool) (bs : List ℕ) (i r : ℕ) → i < length bs → r ≡ codeOf (getD bs i 0)
-    → ((all && ltb 0 r) && areListed (drop (i + 1) bs)) ≡ (all && areListed (drop i bs))
+-- one byte more seen, of which r tells
+pub listed-next : (all : Bool) (bs : List ℕ) (i : ℕ) (r : Bool) → i < length bs → r ≡ isListed (getD bs i 0)
+    → ((all && r) && areListed (drop (i + 1) bs)) ≡ (all && areListed (drop i bs))
 unfolding areListed
 listed-next true bs i r h e = rw (add-one, drop-cons bs i 0 h, e)
 listed-next false bs i r h e = refl

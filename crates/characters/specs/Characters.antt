@@ -29,7 +29,10 @@ placeOf b place (c ∷ cs) = cond (eqb b c) place (placeOf b (suc place) cs)
 unfoldable pub codeOf : ℕ → ℕ
 codeOf b = placeOf b 0 characters
 
+abbrev pub isListed : ℕ → Bool
+isListed b = ltb 0 (codeOf b)
+
 -- the list has every byte of a text
 unfoldable pub areListed : List ℕ → Bool
 areListed [] = true
-areListed (b ∷ bs) = ltb 0 (codeOf b) && areListed bs
+areListed (b ∷ bs) = isListed b && areListed bs

@@ -12,6 +12,10 @@ ghost use Rattle.generic_text.specs.Answers.{Reads, Writes};
 ghost use Rattle.generic_text.specs.Cursor.{Even, codesFrom, start, NextCode, noRun, NextRun, NextFour, isWhole, noFour, Fits, charactersIn, measured, bytesFrom, codesLeft, startAt, Pushed, PutFours, threeOf};
 use codec::Written;
 
+// The 64 code characters: 0 where a code is no character: the end, 27, the tab (28) and 31.
+const CHARACTERS: [u8; 64] =
+    *b"\0ABCDEFGHIJKLMNOPQRSTUVWXYZ\0\0\x1E\n\0 !\"#$%&'()*+,-./0123456789:;<=>?";
+
 pub enum TextReading {
     // a text of so many bytes, and what its header carries
     Text {
@@ -69,7 +73,7 @@ pub fn read(apdu: &[u8], out: &mut [u8]) -> TextReading
     if !is_generic_text(apdu[0], apdu[1], apdu[2]) {
         return TextReading::Refused(15);
     }
-    let table = characters::CHARACTERS;
+    let table = CHARACTERS;
     match measure(&table, apdu, out.len()) {
         Measured::Length(n) => {
             if out.len() < n {

@@ -19,11 +19,11 @@ abbrev μ-loop : tie.MeasureT-loop
 loop-holds : tie.Need-loop-holds Inv-loop μ-loop
 loop-holds c = (omega arith, refl)
 
-shared-slice-read-code-of : tie.Need-shared-slice-read-code-of Inv-loop μ-loop
-shared-slice-read-code-of c = omega arith
+shared-slice-read-is-listed : tie.Need-shared-slice-read-is-listed Inv-loop μ-loop
+shared-slice-read-is-listed c = omega arith
 
-code-of-requires : tie.Need-code-of-requires Inv-loop μ-loop
-code-of-requires c κs = tt
+is-listed-requires : tie.Need-is-listed-requires Inv-loop μ-loop
+is-listed-requires c κs = tt
 
 add-i : tie.Need-add-i Inv-loop μ-loop
 add-i c = omega arith
@@ -34,7 +34,7 @@ loop-less c = omega arith
 loop-again : tie.Need-loop-again Inv-loop μ-loop
 loop-again c =
     let l = c .before .before .before .loop in
-    (omega arith, listed-next (l .all) _ (l .i) _ (omega arith) (c .code-of .ensures) ∙ l .inv .1)
+    (omega arith, listed-next (l .all) _ (l .i) _ (omega arith) (c .is-listed .ensures) ∙ l .inv .1)
 
 returns : tie.Need-returns Inv-loop μ-loop
 returns c = let l = c .before .loop in listed-all (l .all) _ (l .i) (omega arith) ∙ l .inv .1
@@ -46,8 +46,8 @@ are-listed-spec =
     Inv-loop
     μ-loop
     loop-holds
-    shared-slice-read-code-of
-    code-of-requires
+    shared-slice-read-is-listed
+    is-listed-requires
     add-i
     loop-less
     loop-again
