@@ -3,7 +3,7 @@
 use mathlib.Core.Path.{refl}
 use Rattle.numbers.specs.Bits.{_⊕_, bit}
 use Rattle.numbers.specs.Signed.{signedIn}
-use Rattle.numbers.specs.Packing.{bitsOf, bitsIn}
+use Rattle.numbers.specs.Packing.{bitsOf, bitsIn, gather, numbersIn}
 use Rattle.fcs.specs.Fcs.{bits, step, fcs}
 use Rattle.framing.specs.Stuffing.{escape, stuff}
 use Rattle.framing.specs.Frame.{lowFirst, enclosed, frameOf}
@@ -17,8 +17,13 @@ use Rattle.report.specs.Bytes.{reportIn}
 use Rattle.report.specs.Reading.{goodPosition, goodReport}
 use Rattle.messages.specs.Message.{kindIn, readMessage}
 use Rattle.uplink.specs.Walk.{framesBefore, walk, payloadFrames}
-use Rattle.uplink.specs.Answers.{frameList}
-use Rattle.known_answers.specs.Row.{Holds, done, _and_}
+use Rattle.uplink.specs.Answers.{frameList, dataIn}
+use Rattle.uplink.specs.Contents.{contentOf, contents}
+use Rattle.uplink.specs.Samples.{bytesOf, rows, textual}
+use Rattle.characters.specs.Characters.{characterOf, placeOf, codeOf}
+use Rattle.generic_text.specs.Texts.{textOf}
+use Rattle.generic_text.specs.Product.{decode, headerOf, packed, encode}
+use Rattle.known_answers.specs.Row.{Holds, textsIn, done, _and_}
 use Rattle.known_answers.specs.Values.{Starred, Examples}
 
 pub starred-hold : Starred
@@ -26,5 +31,5 @@ unfolding Holds _⊕_ bit signedIn bitsOf bitsIn step fcs escape stuff lowFirst 
 starred-hold = refl and refl and refl and refl and refl and refl and refl and refl and refl and refl and refl and refl and refl and refl and refl and refl and refl and refl and refl and refl and refl and refl and refl and refl and refl and refl and refl and refl and refl and done
 
 pub examples-hold : Examples
-unfolding Holds _⊕_ bit signedIn bitsOf bitsIn step fcs escape stuff lowFirst enclosed frameOf misfit reading heartbeatIn trackFrom positionOf altitudeOf speedOf climbOf reportIn goodPosition goodReport kindIn readMessage
-examples-hold = refl and refl and refl and refl and refl and done
+unfolding Holds _⊕_ bit signedIn bitsOf bitsIn step fcs escape stuff lowFirst enclosed frameOf misfit reading heartbeatIn trackFrom positionOf altitudeOf speedOf climbOf reportIn goodPosition goodReport kindIn readMessage framesBefore walk payloadFrames dataIn contentOf contents bytesOf rows textual gather numbersIn characterOf placeOf codeOf textOf decode headerOf packed encode textsIn
+examples-hold = refl and refl and refl and refl and refl and refl and refl and done

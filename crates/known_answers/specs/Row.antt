@@ -3,7 +3,7 @@
 use mathlib.Core.Path.{_≡_}
 use Prim.Native.Nat.{ℕ, _+_, _*_, _/_, _%_}
 use mathlib.Core.Bool.{true, false}
-use mathlib.Core.List.{List, [], _∷_, _++_}
+use mathlib.Core.List.{List, [], _∷_, _++_, map}
 use lib.IntN.{ℤ, pos, negsuc}
 use lib.ListN.{length, replicate}
 use Rattle.fcs.specs.Fcs.{fcs}
@@ -25,7 +25,9 @@ use Rattle.uplink.specs.declared.FrameList.{FrameList}
 use Rattle.uplink.specs.Frames.{lengthIn}
 use Rattle.uplink.specs.Walk.{payloadFrames}
 use Rattle.uplink.specs.Answers.{frameList}
-use Rattle.uplink.specs.Contents.{payloadWith}
+use Rattle.uplink.specs.Contents.{contents, payloadWith}
+use Rattle.uplink.specs.Samples.{bytesOf}
+use Rattle.generic_text.specs.Product.{Decoded, decoded, refused, textWith, decode, encode}
 
 pub data Row : Type 0 where
   -- a message and its check sequence
@@ -45,6 +47,10 @@ pub data Row : Type 0 where
   header : ℕ → ℕ → ℕ → Row
   -- a header at byte 0 of valid application data with zeros behind it, and what listing answers
   list : ℕ → ℕ → FrameList → Row
+  -- valid application data of 352 bytes with zeros behind it, and the texts that its frames hold
+  texts : List ℕ → List Decoded → Row
+  -- the same, and the bytes of those texts, written
+  rewritten : List ℕ → List (List ℕ) → Row
 
 -- a heartbeat with status 81 41, its time and its two counts
 abbrev pub heartbeatWith : ℕ → ℕ → ℕ → Reading
@@ -81,6 +87,26 @@ trafficWith d climb = Message (Traffic (record {
   };
 }))
 
+-- what the frames of valid application data of 352 bytes hold
+unfoldable pub textsIn : List ℕ → List Decoded
+textsIn xs = map (λ c. decode (c .bytes)) (contents (payloadWith xs 72))
+
+abbrev pub encoded : Decoded → List ℕ
+encoded (decoded t) = encode t
+encoded (refused k) = []
+
+-- 001 §5.2.4's report of a place of four letters: 'TAF ', the place, and a body that is the same in each, with five spaces behind a new
+-- line and a record separator at its end
+abbrev pub reportOf : ℕ → Decoded
+reportOf place =
+    decoded
+    (textWith 16 25 0
+    (bytesOf 4 0x54414620
+    (bytesOf 4 place
+    (bytesOf 32 0x203236303930305A414D203235313331352030383030364B54205036534D2046
+    (bytesOf 32 0x455730363020424B4E3132300A2020202020464D303430302056524230334B54
+    (bytesOf 15 0x205036534D205343543235303D0A1E []))))))
+
 unfoldable pub Holds : Row → Type 0
 Holds (sequence m n) = fcs m ≡ n
 Holds (frame m bs) = frameOf m ≡ bs
@@ -91,6 +117,8 @@ Holds (read m r) = readMessage m ≡ r
 Holds (feet d z) = pressureFeet (record { steps = d }) ≡ z
 Holds (header a b n) = lengthIn a b ≡ n
 Holds (list a b l) = frameList (payloadFrames (payloadWith (a ∷ b ∷ []) 422)) ≡ l
+Holds (texts xs ts) = textsIn xs ≡ ts
+Holds (rewritten xs bs) = map encoded (textsIn xs) ≡ bs
 
 infixr 5 _and_
 pub data AllHold : List Row → Type 0 where

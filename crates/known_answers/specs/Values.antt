@@ -7,7 +7,8 @@ use Rattle.collecting.specs.Stream.{message, refused}
 use Rattle.message_types.specs.declared.Climb.the-variants.{Steps}
 use Rattle.message_types.specs.declared.Reading.the-variants.{Refused}
 use Rattle.uplink.specs.declared.FrameList.the-variants as uplink
-use Rattle.known_answers.specs.Row.{Row, sequence, frame, shortest, longest, between, read, feet, header, list, heartbeatWith, trafficMessage, trafficWith, AllHold}
+use Rattle.uplink.specs.Samples.{bytesOf, textual}
+use Rattle.known_answers.specs.Row.{Row, sequence, frame, shortest, longest, between, read, feet, header, list, texts, rewritten, heartbeatWith, trafficMessage, trafficWith, reportOf, AllHold}
 
 abbrev pub starred : List Row
 starred =
@@ -65,6 +66,16 @@ examples =
     ∷ shortest (0x00 ∷ 0x81 ∷ 0x41 ∷ 0xDB ∷ 0xD0 ∷ 0x08 ∷ 0x02 ∷ [])
     -- 001 §3.1.4: counts 4 and 567
     ∷ read (0x00 ∷ 0x81 ∷ 0x41 ∷ 0xDB ∷ 0xD0 ∷ 0x22 ∷ 0x37 ∷ []) (heartbeatWith 53467 4 567)
+    -- 001 §5.2.4: five reports, of KSLE, KPDX, KEUG, KAST and KHIO
+    ∷ texts textual (reportOf 0x4B534C45 ∷ reportOf 0x4B504458 ∷ reportOf 0x4B455547 ∷ reportOf 0x4B415354 ∷ reportOf 0x4B48494F ∷ [])
+    -- written they are 70 bytes and not 67: each holds a tab, which is written as its spaces, and no closing code
+    ∷ rewritten textual (
+    bytesOf 32 0x067441905011A02D3305832DB0E70C1A04D832D71CF1D60C38C30D8B5204364C (bytesOf 32 0xD806157C36C2008B3B1CB07A082082018DC34C30816482C332D4810D933604C3 (bytesOf 6 0x532D70F5E740 [])) ∷
+    bytesOf 32 0x067441905011A02D0118832DB0E70C1A04D832D71CF1D60C38C30D8B5204364C (bytesOf 32 0xD806157C36C2008B3B1CB07A082082018DC34C30816482C332D4810D933604C3 (bytesOf 6 0x532D70F5E740 [])) ∷
+    bytesOf 32 0x067441905011A02C5547832DB0E70C1A04D832D71CF1D60C38C30D8B5204364C (bytesOf 32 0xD806157C36C2008B3B1CB07A082082018DC34C30816482C332D4810D933604C3 (bytesOf 6 0x532D70F5E740 [])) ∷
+    bytesOf 32 0x067441905011A02C14D4832DB0E70C1A04D832D71CF1D60C38C30D8B5204364C (bytesOf 32 0xD806157C36C2008B3B1CB07A082082018DC34C30816482C332D4810D933604C3 (bytesOf 6 0x532D70F5E740 [])) ∷
+    bytesOf 32 0x067441905011A02C824F832DB0E70C1A04D832D71CF1D60C38C30D8B5204364C (bytesOf 32 0xD806157C36C2008B3B1CB07A082082018DC34C30816482C332D4810D933604C3 (bytesOf 6 0x532D70F5E740 [])) ∷
+    [])
     ∷ []
 
 abbrev pub Examples : Type 0
