@@ -21,7 +21,7 @@ use Rattle.generic_text.specs.Product.{textWith, isGenericText, hoursIn,
 use Rattle.generic_text.specs.Answers.{textReading, charactersOf, Reads, textWriting, Writes}
 use Rattle.generic_text.specs.Cursor.{codesFrom, start, Fits, charactersIn, measured}
 use Rattle.generic_text.proofs.Rewriting.{decode-is}
-use Rattle.generic_text.proofs.Pushing.{packed-length}
+use Rattle.generic_text.proofs.Putting.{packed-length}
 
 -- a text's header, and the codes behind it
 pub walked : (apdu : List ℕ) → 4 ≤ length apdu → isGenericText (getD apdu 0 0) (getD apdu 1 0) (getD apdu 2 0) ≡ true

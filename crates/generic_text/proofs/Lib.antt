@@ -2,6 +2,6 @@ pub mod Texts
 pub mod Rewriting
 pub mod Walking
 pub mod Expanding
-pub mod Pushing
+pub mod Putting
 pub mod Answering
 pub mod Laws

@@ -1,15 +1,13 @@
--- Where reading stands between two codes, and writing between two characters.
+-- Where reading stands between two codes.
 -- Assumes nothing.
 use mathlib.Core.Path.{_≡_}
-use Prim.Native.Nat.{ℕ, _+_, _*_, _/_, _%_, _≤_, _<_, min}
+use Prim.Native.Nat.{ℕ, _+_, _%_, _≤_, _<_, min}
 use mathlib.Core.Bool.{Bool, true, _&&_}
-use mathlib.Core.List.{List, [], _∷_, _++_, map}
+use mathlib.Core.List.{List, [], _∷_, _++_}
 use mathlib.Core.Option.{Option, none, some}
 use lib.Dec.{ltb}
 use lib.ListN.{length, drop, replicate}
-use Rattle.numbers.specs.Lent.{Stored}
 use Rattle.numbers.specs.Packing.{bitsOf, bitsIn, numbersIn}
-use Rattle.characters.specs.Characters.{codeOf}
 use Rattle.generic_text.specs.declared.Cursor.{Cursor}
 use Rattle.generic_text.specs.declared.Next.{Next}
 use Rattle.generic_text.specs.declared.Run.{Run}
@@ -17,9 +15,8 @@ use Rattle.generic_text.specs.declared.Four.{Four}
 use Rattle.generic_text.specs.declared.Measured.{Measured}
 use Rattle.generic_text.specs.declared.Measured.the-variants as measure
 use Rattle.generic_text.specs.Texts.{before, textOf}
-use Rattle.generic_text.specs.Product.{packed}
 
--- of the last byte or code an even number of bits is left, six at most
+-- of the last byte an even number of bits is left, six at most
 abbrev pub Even : Cursor → Type 0
 Even s = (s .width % 2 ≡ 0) × (s .width ≤ 6)
 
@@ -78,30 +75,3 @@ charactersIn none = []
 abbrev pub measured : Option (List ℕ) → ℕ → Measured
 measured (some t) room = measure.Length (min (length t) (room + 1))
 measured none room = measure.Fault
-
--- the bytes that are left to write: those of the last code's low bits, of more codes, and of zero bits up to the byte's end
-unfoldable pub bytesFrom : Cursor → List ℕ → List ℕ
-bytesFrom s codes = numbersIn 8 (bitsOf (s .width) (s .last) ++ (bitsIn 6 codes ++ replicate 7 0))
-
--- the codes from character i on, and the closing one
-abbrev pub codesLeft : List ℕ → ℕ → List ℕ
-codesLeft text i = map codeOf (drop i text) ++ (0 ∷ [])
-
--- the bytes of four codes
-abbrev pub threeOf : ℕ → ℕ → ℕ → ℕ → List ℕ
-threeOf a b c d =
-    (((a * 64 + b) * 64 + c) * 64 + d) / 65536 % 256 ∷ (((a * 64 + b) * 64 + c) * 64 + d) / 256 % 256 ∷ (((a * 64 + b) * 64 + c) * 64 + d) % 256 ∷ []
-
--- the bytes of the characters before i, a multiple of four, were stored, and what is left to write behind them
-pub record PutFours (out text : List ℕ) (i at : ℕ) (left : List ℕ) : Type 0 where
-  pub bytes : List ℕ
-  pub stored : Stored out 4 bytes at left
-  pub rest : packed text ≡ bytes ++ bytesFrom (startAt at) (codesLeft text i)
-
--- a code more taken in, and the byte that it fills, if it fills one, stored
-pub record Pushed (out : List ℕ) (s : Cursor) (code : ℕ) (t : Cursor) (left : List ℕ) : Type 0 where
-  pub bytes : List ℕ
-  pub stored : Stored out (s .at) bytes (t .at) left
-  pub rest : (codes : List ℕ) → bytesFrom s (code ∷ codes) ≡ bytes ++ bytesFrom t codes
-  pub even : Even t
-  pub last : t .last ≡ code

@@ -63,9 +63,13 @@ isFit h m p = ltb h 32 && (ltb m 64 && ltb p 16)
 unfoldable pub headerOf : ℕ → ℕ → ℕ → List ℕ
 headerOf h m p = product / 64 ∷ (product % 64 * 4) ∷ (h * 4 + m / 16) ∷ (m % 16 * 16 + p) ∷ []
 
--- the characters' codes, closed by one code 0 and zero bits up to the byte's end: of seven, those that fill it
-unfoldable pub packed : List ℕ → List ℕ
-packed cs = numbersIn 8 (bitsIn 6 (map codeOf cs ++ (0 ∷ [])) ++ replicate 7 0)
+-- the bytes of codes, with zero bits up to the byte's end: of seven, those that fill it
+unfoldable pub bytesOf : List ℕ → List ℕ
+bytesOf codes = numbersIn 8 (bitsIn 6 codes ++ replicate 7 0)
+
+-- the characters' codes, closed by one code 0
+abbrev pub packed : List ℕ → List ℕ
+packed cs = bytesOf (map codeOf cs ++ (0 ∷ []))
 
 unfoldable pub encode : Text → List ℕ
 encode t = headerOf (t .hours) (t .minutes) (t .padding) ++ packed (t .characters)

@@ -7,9 +7,10 @@ ghost use lib.ListN.{length, replicate};
 ghost use Rattle.numbers.specs.Lent.{written, Stored};
 ghost use Rattle.characters.specs.Characters.{characters, codeOf, areListed};
 ghost use Rattle.generic_text.specs.Texts.{textOf};
-ghost use Rattle.generic_text.specs.Product.{decode, isGenericText, hoursIn, minutesIn, paddingIn, isFit, textWith, headerOf, packed};
+ghost use Rattle.generic_text.specs.Product.{decode, isGenericText, hoursIn, minutesIn, paddingIn, isFit, textWith, headerOf, bytesOf, packed};
+ghost use Rattle.generic_text.specs.Putting.{codesLeft, threeOf, PutFours};
 ghost use Rattle.generic_text.specs.Answers.{Reads, Writes};
-ghost use Rattle.generic_text.specs.Cursor.{Even, codesFrom, start, NextCode, noRun, NextRun, NextFour, isWhole, noFour, Fits, charactersIn, measured, bytesFrom, codesLeft, startAt, Pushed, PutFours, threeOf};
+ghost use Rattle.generic_text.specs.Cursor.{Even, codesFrom, start, NextCode, noRun, NextRun, NextFour, isWhole, noFour, Fits, charactersIn, measured};
 use codec::Written;
 
 // The 64 code characters: 0 where a code is no character: the end, 27, the tab (28) and 31.
@@ -28,7 +29,7 @@ pub enum TextReading {
     Refused(u8),
 }
 
-// Where reading or writing stands: the place of the next byte, and the last byte or code with how many of its low bits are left.
+// Where reading stands: the place of the next byte, and the last byte with how many of its low bits are left.
 struct Cursor {
     at: usize,
     last: u8,
@@ -411,57 +412,27 @@ fn put_three(out: &mut [u8], at: usize, a: u8, b: u8, c: u8, d: u8) -> usize
     at + 3
 }
 
-// The last characters, fewer than four, and the closing code.
+// The last characters, fewer than four, closed by one code 0 and zero bits up to the byte's end.
 fn put_last(out: &mut [u8], at: usize, text: &[u8]) -> usize
-    requires { ⌜ (at + length (bytesFrom (startAt at) (codesLeft (now text) (length (now text) - length (now text) % 4))) ≤ length (now out)) × (areListed (now text) ≡ true) ⌝ }
-    ensures { λ r. ⌜ Stored (now (out .entry)) at (bytesFrom (startAt at) (codesLeft (now (text .entry)) (length (now (text .entry)) - length (now (text .entry)) % 4))) r (now (out .exit)) ⌝ }
+    requires { ⌜ (at + length (bytesOf (codesLeft (now text) (length (now text) - length (now text) % 4))) ≤ length (now out)) × (areListed (now text) ≡ true) ⌝ }
+    ensures { λ r. ⌜ Stored (now (out .entry)) at (bytesOf (codesLeft (now (text .entry)) (length (now (text .entry)) - length (now (text .entry)) % 4))) r (now (out .exit)) ⌝ }
 {
-    let mut s = Cursor {
-        at,
-        last: 0,
-        width: 0,
-    };
-    let mut i = text.len() - text.len() % 4;
-    while i < text.len() {
-        s = push(out, s, listed_code(text[i]));
-        i += 1;
+    let left = text.len() % 4;
+    let i = text.len() - left;
+    if left == 0 {
+        out[at] = 0;
+        return at + 1;
     }
-    close(out, s)
-}
-
-// A code more: with the low bits of the last one it fills a byte, unless there are none.
-fn push(out: &mut [u8], s: Cursor, code: u8) -> Cursor
-    requires { ⌜ Even s × (code < 64) × ((s .width ≡ 0 → ⊥) → s .at < length (now out)) ⌝ }
-    ensures { λ r. ⌜ Pushed (now (out .entry)) s code r (now (out .exit)) ⌝ }
-{
-    let at = s.at;
-    let width = s.width;
-    if width == 0 {
-        return Cursor {
-            at,
-            last: code,
-            width: 6,
-        };
+    let a = listed_code(text[i]);
+    if left == 1 {
+        out[at] = a * 4;
+        out[at + 1] = 0;
+        return at + 2;
     }
-    let both = (s.last as u32) * 64 + code as u32;
-    out[at] = ((both >> (width - 2)) % 256) as u8;
-    Cursor {
-        at: at + 1,
-        last: code,
-        width: width - 2,
+    let b = listed_code(text[i + 1]);
+    if left == 2 {
+        return put_three(out, at, a, b, 0, 0);
     }
-}
-
-// The closing code 0, and zero bits up to the byte's end.
-fn close(out: &mut [u8], s: Cursor) -> usize
-    requires { ⌜ Even s × (s .at + length (bytesFrom s (0 ∷ [])) ≤ length (now out)) ⌝ }
-    ensures { λ r. ⌜ Stored (now (out .entry)) (s .at) (bytesFrom s (0 ∷ [])) r (now (out .exit)) ⌝ }
-{
-    let t = push(out, s, 0);
-    let at = t.at;
-    if t.width == 0 {
-        return at;
-    }
-    out[at] = 0;
-    at + 1
+    let c = listed_code(text[i + 2]);
+    put_three(out, at, a, b, c, 0)
 }

@@ -1,19 +1,14 @@
 -- `generic_text::put_fours` meets its contract. The loop's invariant: the bytes before i were stored.
 -- Assumes nothing.
 use mathlib.Core.Path.{_≡_, refl, _∙_}
-use Prim.Native.Nat.{ℕ, _+_, _-_, _%_, _≤_, _<_}
+use Prim.Native.Nat.{_+_, _-_, _%_, _≤_}
 use native.Mathlib.Omega.{arith}
 use lib.ListN.{length, getD}
-use Rattle.characters.specs.Characters.{codeOf}
-use Rattle.characters.proofs.Inverse.{code-lt}
 use Rattle.characters.proofs.Listed.{listed-at}
-use Rattle.generic_text.specs.Cursor.{PutFours}
-use Rattle.generic_text.proofs.Pushing.{fours-start, fours-room, fours-more}
+use Rattle.generic_text.specs.Putting.{PutFours}
+use Rattle.generic_text.proofs.Putting.{small, fours-start, fours-room, fours-more}
 use Rattle.generic_text.proofs.put_fours.Statement.{statement}
 use Rattle.generic_text.proofs.put_fours.Tie as tie
-
-small : (r b : ℕ) → r ≡ codeOf b → r < 64
-small r b e = omega (arith, code-lt b)
 
 abbrev Inv-loop : tie.InvT-loop
 Inv-loop out₀ text end at₀ i₀ out at i = (i % 4 ≡ 0) × (i ≤ end) × (length out ≡ length out₀) × PutFours out₀ text i at out

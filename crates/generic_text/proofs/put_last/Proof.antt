@@ -1,90 +1,113 @@
--- `generic_text::put_last` meets its contract. The loop's invariant: what is left is to store the bytes of the codes that are left.
+-- `generic_text::put_last` meets its contract, by how many characters are left.
 -- Assumes nothing.
-use mathlib.Core.Path.{_≡_, refl, ap, _∙_}
-use Prim.Native.Nat.{_-_, _%_, _≤_}
-use mathlib.Core.List.{List}
-use Prim.Native.Nat.{ℕ}
+use mathlib.Core.Path.{refl, sym, ap}
+use Prim.Native.Nat.{_+_, _-_, _*_, _%_}
+use mathlib.Core.List.{[], _∷_}
 use native.Mathlib.Omega.{arith}
-use lib.ListN.{getD, length}
-use Rattle.numbers.proofs.Storing.{Rest, rest-more, rest-size}
-use Rattle.characters.proofs.Inverse.{code-lt}
+use native.Mathlib.Nat.{add-zero}
+use lib.ListN.{length, length-set}
+use Rattle.numbers.proofs.Storing.{also}
 use Rattle.characters.proofs.Listed.{listed-at}
-use Rattle.generic_text.specs.Cursor.{Even, startAt, bytesFrom, codesLeft}
-use Rattle.generic_text.proofs.Pushing.{room, pushed, none-left}
+use borrow.Author.Needs.{needs}
+use Rattle.generic_text.proofs.Putting.{small, last-none, last-one, last-two, last-three}
 use Rattle.generic_text.proofs.put_last.Statement.{statement}
 use Rattle.generic_text.proofs.put_last.Tie as tie
 
-abbrev Inv-loop : tie.InvT-loop
-Inv-loop out₀ at text s₀ i₀ out s i =
-    (i ≤ length text) × (length out ≡ length out₀) × Even s
-    × Rest out₀ at (bytesFrom (startAt at) (codesLeft text (length text - length text % 4))) out (s .at) (bytesFrom s (codesLeft text i))
+slice-write-out : tie.Need-slice-write-out
+slice-write-out c =
+    let a = c .before .before .before in
+    let text = a .args .text .now in
+    let i = length text - length text % 4 in
+    omega (arith, a .pre .0, ap length (last-none text i (omega arith)))
 
-abbrev μ-loop : tie.MeasureT-loop
-μ-loop out₀ at text s₀ i₀ out s i = length text - i
-
-sub-i : tie.Need-sub-i Inv-loop μ-loop
-sub-i c = omega arith
-
-loop-holds : tie.Need-loop-holds Inv-loop μ-loop
-loop-holds c = (omega arith, refl, omega arith, λ last left s. s)
-
-shared-slice-read-listed-code : tie.Need-shared-slice-read-listed-code Inv-loop μ-loop
-shared-slice-read-listed-code c = omega arith
-
-listed-code-requires : tie.Need-listed-code-requires Inv-loop μ-loop
-listed-code-requires c κs = let l = c .before .before .before in listed-at _ (l .loop .i) (l .before .before .before .pre .1) (omega arith)
-
-push-requires : tie.Need-push-requires Inv-loop μ-loop
-push-requires c κs =
-    let l = c .before .before .before .before .loop in
-    let a = c .before .before .before .before .before .before .before in
-    let e = c .listed-code .ensures in
-    let h = room (a .args .text .now) (l .i) (c .listed-code .result) (omega arith) e (l .s) (length (l .out)) (l .inv .2) (omega (arith, rest-size (l .inv .3), a .pre .0)) in
-    (l .inv .2, omega (arith, code-lt (getD (a .args .text .now) (l .i) 0)), h)
-
-add-i : tie.Need-add-i Inv-loop μ-loop
-add-i c = omega arith
-
-loop-less : tie.Need-loop-less Inv-loop μ-loop
-loop-less c = omega arith
-
-loop-again : tie.Need-loop-again Inv-loop μ-loop
-loop-again c =
-    let p = c .before .before .push .ensures in
-    let l = c .before .before .before .before .before .before .before .loop in
-    let a = c .before .before .before .before .before .before .before .before .before .before in
-    let f = c .before .before .before in
-    (omega arith, c .before .before .push .kept .0 ∙ l .inv .1, p .even, rest-more (p .stored) (rw (pushed (a .args .text .now) (l .i) (f .listed-code .result) (omega arith) (f .listed-code .ensures) p) at (l .inv .3)))
-
-close-requires : tie.Need-close-requires Inv-loop μ-loop
-close-requires c κs =
-    let l = c .before .before .loop in
-    let a = c .before .before .before .before .before in
-    (l .inv .2, omega (arith, rest-size (l .inv .3), ap (λ (codes : List ℕ). length (bytesFrom (l .s) codes)) (none-left (a .args .text .now) (l .i) (omega arith)), a .pre .0))
-
-same-length : tie.Need-same-length Inv-loop μ-loop
-same-length c = c .before .before .close .kept .0 ∙ c .before .before .before .before .before .loop .inv .1
-
-returns : tie.Need-returns Inv-loop μ-loop
+returns : tie.Need-returns
 returns c =
-    let l = c .before .before .before .before .before .loop in
-    let a = c .before .before .before .before .before .before .before .before in
-    rw (none-left (a .args .text .now) (l .i) (omega arith)) at (l .inv .3) _ _ (c .before .before .close .ensures)
+    let a = c .before .before .before in
+    let text = a .args .text .now in
+    let i = length text - length text % 4 in
+    rw (last-none text i (omega arith)) (record { ends = refl; leaves = refl })
+
+listed-code-requires : tie.Need-listed-code-requires
+listed-code-requires c κs =
+    let a = c .before .before .before .before in
+    let text = a .args .text .now in
+    let i = length text - length text % 4 in
+    listed-at text i (a .pre .1) (omega arith)
+
+mul-out : tie.Need-mul-out
+mul-out c = omega (arith, small _ _ (c .before .listed-code .ensures))
+
+slice-write-out-2 : tie.Need-slice-write-out-2
+slice-write-out-2 c =
+    let a = c .before .before .before .before .before .before in
+    let text = a .args .text .now in
+    let i = length text - length text % 4 in
+    let e = last-one text i _ (c .before .listed-code .ensures) (omega arith) in
+    omega (arith, a .pre .0, ap length e)
+
+slice-write-out-3 : tie.Need-slice-write-out-3
+slice-write-out-3 c =
+    let a = c .before .before .before .before .before .before in
+    let text = a .args .text .now in
+    let i = length text - length text % 4 in
+    let e = last-one text i _ (c .before .listed-code .ensures) (omega arith) in
+    simp length-set (omega (arith, a .pre .0, ap length e))
+
+returns-2 : tie.Need-returns-2
+returns-2 c =
+    let a = c .before .before .before .before .before .before in
+    let text = a .args .text .now in
+    let i = length text - length text % 4 in
+    let e = last-one text i _ (c .before .listed-code .ensures) (omega arith) in
+    let x = c .before .listed-code .result * 4 in
+    rw e (also (x ∷ []) 0 (a .args .at + 2) (omega arith) (also [] x (a .args .at + 1) refl (record { ends = sym (add-zero (a .args .at)); leaves = refl })))
+
+listed-code-requires-2 : tie.Need-listed-code-requires-2
+listed-code-requires-2 c κs =
+    let a = c .before .before .before .before .before .before .before in
+    let text = a .args .text .now in
+    let i = length text - length text % 4 in
+    listed-at text (i + 1) (a .pre .1) (omega arith)
+
+put-three-requires : tie.Need-put-three-requires
+put-three-requires c κs =
+    let a = c .before .before .before .before .before .before .before .before .before .before in
+    let text = a .args .text .now in
+    let i = length text - length text % 4 in
+    let x = c .before .before .before .before .before .listed-code .ensures in
+    let y = c .before .before .listed-code2 .ensures in
+    (omega (arith, a .pre .0, ap length (last-two text i _ x _ y (omega arith))), (small _ _ x, small _ _ y, omega arith, omega arith))
+
+returns-3 : tie.Need-returns-3
+returns-3 c =
+    let a = c .before .before .before .before .before .before .before .before .before .before .before .before .before in
+    let text = a .args .text .now in
+    let i = length text - length text % 4 in
+    rw (last-two text i _ (c .before .before .before .before .before .before .before .before .listed-code .ensures) _ (c .before .before .before .before .before .listed-code2 .ensures) (omega arith)) (c .before .before .put-three .ensures)
+
+listed-code-requires-3 : tie.Need-listed-code-requires-3
+listed-code-requires-3 c κs =
+    let a = c .before .before .before .before .before .before .before .before .before .before in
+    let text = a .args .text .now in
+    let i = length text - length text % 4 in
+    listed-at text (i + 2) (a .pre .1) (omega arith)
+
+put-three-requires-2 : tie.Need-put-three-requires-2
+put-three-requires-2 c κs =
+    let a = c .before .before .before .before .before .before .before .before .before .before .before .before in
+    let text = a .args .text .now in
+    let i = length text - length text % 4 in
+    let x = c .before .before .before .before .before .before .before .listed-code .ensures in
+    let y = c .before .before .before .before .listed-code2 .ensures in
+    let z = c .before .listed-code3 .ensures in
+    (omega (arith, a .pre .0, ap length (last-three text i _ x _ y _ z (omega arith))), (small _ _ x, small _ _ y, small _ _ z, omega arith))
+
+returns-4 : tie.Need-returns-4
+returns-4 c =
+    let a = c .before .before .before .before .before .before .before .before .before .before .before .before .before .before .before in
+    let text = a .args .text .now in
+    let i = length text - length text % 4 in
+    rw (last-three text i _ (c .before .before .before .before .before .before .before .before .before .before .listed-code .ensures) _ (c .before .before .before .before .before .before .before .listed-code2 .ensures) _ (c .before .before .before .before .listed-code3 .ensures) (omega arith)) (c .before .before .put-three2 .ensures)
 
 pub put-last-spec : {M : Type 1} → statement M
-put-last-spec =
-    tie.close
-    (tie.spec
-    Inv-loop
-    μ-loop
-    sub-i
-    loop-holds
-    shared-slice-read-listed-code
-    listed-code-requires
-    push-requires
-    add-i
-    loop-less
-    loop-again
-    close-requires
-    same-length
-    returns)
+put-last-spec = tie.close (tie.spec (λ c. search needs) slice-write-out (λ c. search needs) (λ c. search needs) returns (λ c. search needs) listed-code-requires mul-out slice-write-out-2 (λ c. search needs) slice-write-out-3 (λ c. search needs) (λ c. search needs) returns-2 (λ c. search needs) (λ c. search needs) listed-code-requires-2 put-three-requires (λ c. search needs) returns-3 (λ c. search needs) (λ c. search needs) listed-code-requires-3 put-three-requires-2 (λ c. search needs) returns-4)
