@@ -279,14 +279,14 @@ fn spaces(apdu: &[u8], s: Cursor) -> Run
 {
     let next = next_code(apdu, s);
     let times = next.code;
-    let rest = next.rest;
+    let behind = next.rest;
     if times == 64 {
-        return no_run(1, rest);
+        return no_run(1, behind);
     }
     Run {
         byte: 32,
         times,
-        rest,
+        rest: behind,
     }
 }
 
