@@ -7,7 +7,8 @@ ghost use Rattle.codec.specs.Writing.{Wrote};
 pub enum Written {
     // how many bytes were written
     Bytes(usize),
-    // the number: 7, an uplink's payload not 432 bytes; 8, a field outside its range; 9, lent output too short
+    // the number: 7, an uplink's payload not 432 bytes; 8, a field outside its range; 9, lent output too short; 16, a text's character
+    // that has no code
     Refused(u8),
 }
 

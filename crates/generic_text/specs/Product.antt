@@ -23,7 +23,7 @@ textWith h m p cs = record { hours = h; minutes = m; padding = p; characters = c
 abbrev pub product : ℕ
 product = 413
 
--- the APDU header (001 §5.2.1) in its four bytes a, b, c, d: 3 flag bits, the product id of 11 bits, one segmentation bit,
+-- the APDU header (001 §5.2.2.1) in its four bytes a, b, c, d: 3 flag bits, the product id of 11 bits, one segmentation bit,
 -- 2 time option bits, 5 bits of hours, 6 of minutes, 4 of padding. It is a text's where the product is text and every other bit
 -- before the hours 0
 abbrev pub isGenericText : ℕ → ℕ → ℕ → Bool

@@ -1,4 +1,4 @@
--- Numbers of some bits each, one directly behind the other, the high bit first (001 §5.2.2.2).
+-- Numbers of some bits each, one directly behind the other, the high bit first (001 §5.2.2.2; RULES 'Weather texts').
 -- Assumes nothing.
 use Prim.Native.Nat.{ℕ, zero, suc, _+_, _*_, _/_, _%_, _^_}
 use mathlib.Core.List.{List, [], _∷_, _++_}
