@@ -15,7 +15,7 @@ use Rattle.numbers.proofs.Packing.{next-number, length-bitsIn, bitsIn-append, b
 use Rattle.numbers.proofs.Storing.{then}
 use Rattle.characters.specs.Characters.{codeOf}
 use Rattle.characters.proofs.Inverse.{code-lt}
-use Rattle.generic_text.specs.Product.{headerOf, bytesOf, packed, encode}
+use Rattle.generic_text.specs.Product.{headerOf, codeBytes, packed, encode}
 use Rattle.generic_text.specs.Putting.{codesLeft, threeOf, PutFours}
 use Rattle.generic_text.specs.Claims.{Size}
 use Rattle.generic_text.proofs.Rewriting.{packed-filled}
@@ -40,8 +40,8 @@ four-bits a b c d rest ha hb hc hd =
     ∙ digits-first 7 3 n rest
     ∙ ap (λ (k : ℕ). n / 65536 % 256 ∷ n / 256 % 256 ∷ k % 256 ∷ numbersIn 8 rest) last
 
-four-filled : (a b c d : ℕ) (codes : List ℕ) → a < 64 → b < 64 → c < 64 → d < 64 → bytesOf (a ∷ b ∷ c ∷ d ∷ codes) ≡ threeOf a b c d ++ bytesOf codes
-unfolding bytesOf
+four-filled : (a b c d : ℕ) (codes : List ℕ) → a < 64 → b < 64 → c < 64 → d < 64 → codeBytes (a ∷ b ∷ c ∷ d ∷ codes) ≡ threeOf a b c d ++ codeBytes codes
+unfolding codeBytes
 four-filled a b c d codes ha hb hc hd =
     let four : List ℕ = a ∷ b ∷ c ∷ d ∷ [] in
     ap (numbersIn 8) (ap (λ (l : List ℕ). l ++ replicate 7 0) (bitsIn-append 6 four codes) ∙ append-assoc (bitsIn 6 four) (bitsIn 6 codes) (replicate 7 0))
@@ -52,17 +52,17 @@ small r k e = omega (arith, code-lt k)
 
 -- the last codes, the closing one and zero bits up to the byte's end
 module _ (text : List ℕ) (i : ℕ) where
-  pub last-none : length text ≤ i → bytesOf (codesLeft text i) ≡ 0 ∷ []
-  unfolding bytesOf bitsIn bitsOf bit numbersIn gather
-  last-none h = ap bytesOf (none-left text i h)
+  pub last-none : length text ≤ i → codeBytes (codesLeft text i) ≡ 0 ∷ []
+  unfolding codeBytes bitsIn bitsOf bit numbersIn gather
+  last-none h = ap codeBytes (none-left text i h)
 
   module _ (a : ℕ) (ea : a ≡ codeOf (getD text i 0)) where
-    pub last-one : i + 1 ≡ length text → bytesOf (codesLeft text i) ≡ a * 4 ∷ 0 ∷ []
-    unfolding bytesOf bitsIn bitsOf bit numbersIn gather
+    pub last-one : i + 1 ≡ length text → codeBytes (codesLeft text i) ≡ a * 4 ∷ 0 ∷ []
+    unfolding codeBytes bitsIn bitsOf bit numbersIn gather
     last-one h =
         let k = small a _ ea in
         let byte : (a * 64 + 0) / 16 % 256 ≡ a * 4 = omega arith in
-        ap bytesOf (one-less text i a (omega arith) ea ∙ ap (λ (l : List ℕ). a ∷ l) (none-left text (i + 1) (omega arith)))
+        ap codeBytes (one-less text i a (omega arith) ea ∙ ap (λ (l : List ℕ). a ∷ l) (none-left text (i + 1) (omega arith)))
         ∙ next-number 7 6 4 6 a 0 (replicate 7 0) refl (omega arith) (omega arith)
         ∙ ap (λ (x : ℕ). x ∷ 0 ∷ []) byte
 
@@ -73,16 +73,16 @@ module _ (text : List ℕ) (i : ℕ) where
           one-less text i a (omega arith) ea
           ∙ ap (λ (l : List ℕ). a ∷ l) (one-less text (i + 1) b (omega arith) eb ∙ ap (λ (n : ℕ). b ∷ codesLeft text n) next)
 
-      pub last-two : i + 2 ≡ length text → bytesOf (codesLeft text i) ≡ threeOf a b 0 0
-      unfolding bytesOf bitsIn bitsOf bit numbersIn gather
+      pub last-two : i + 2 ≡ length text → codeBytes (codesLeft text i) ≡ threeOf a b 0 0
+      unfolding codeBytes bitsIn bitsOf bit numbersIn gather
       last-two h =
-          ap bytesOf (two (omega arith) ∙ ap (λ (l : List ℕ). a ∷ b ∷ l) (none-left text (i + 2) (omega arith)))
+          ap codeBytes (two (omega arith) ∙ ap (λ (l : List ℕ). a ∷ b ∷ l) (none-left text (i + 2) (omega arith)))
           ∙ four-bits a b 0 0 (0 ∷ []) (small a _ ea) (small b _ eb) (omega arith) (omega arith)
 
-      pub last-three : (c : ℕ) → c ≡ codeOf (getD text (i + 2) 0) → i + 3 ≡ length text → bytesOf (codesLeft text i) ≡ threeOf a b c 0
-      unfolding bytesOf bitsIn bitsOf bit numbersIn gather
+      pub last-three : (c : ℕ) → c ≡ codeOf (getD text (i + 2) 0) → i + 3 ≡ length text → codeBytes (codesLeft text i) ≡ threeOf a b c 0
+      unfolding codeBytes bitsIn bitsOf bit numbersIn gather
       last-three c ec h =
-          ap bytesOf (two (omega arith) ∙ ap (λ (l : List ℕ). a ∷ b ∷ l) (one-less text (i + 2) c (omega arith) ec ∙ ap (λ (l : List ℕ). c ∷ l) (none-left text (i + 2 + 1) (omega arith))))
+          ap codeBytes (two (omega arith) ∙ ap (λ (l : List ℕ). a ∷ b ∷ l) (one-less text (i + 2) c (omega arith) ec ∙ ap (λ (l : List ℕ). c ∷ l) (none-left text (i + 2 + 1) (omega arith))))
           ∙ four-bits a b c 0 (replicate 7 0) (small a _ ea) (small b _ eb) (small c _ ec) (omega arith)
 
 module _ {out text : List ℕ} where
@@ -101,29 +101,29 @@ module _ {out text : List ℕ} where
         ∙ ap (λ (l : List ℕ). getD text i 0 ∷ getD text (i + 1) 0 ∷ getD text (i + 2) 0 ∷ l)
         (drop-cons text (i + 3) 0 (omega arith) ∙ ap (λ (n : ℕ). getD text (i + 3) 0 ∷ drop n text) four))
 
-    left : packed text ≡ p .bytes ++ (threeOf (codeOf (getD text i 0)) (code 1) (code 2) (code 3) ++ bytesOf (codesLeft text (i + 4)))
+    left : packed text ≡ p .bytes ++ (threeOf (codeOf (getD text i 0)) (code 1) (code 2) (code 3) ++ codeBytes (codesLeft text (i + 4)))
     left =
         p .rest
         ∙ ap (λ (l : List ℕ). p .bytes ++ l)
-        (ap bytesOf next-four
+        (ap codeBytes next-four
         ∙ four-filled (codeOf (getD text i 0)) (code 1) (code 2) (code 3) (codesLeft text (i + 4)) (code-lt _) (code-lt _) (code-lt _) (code-lt _))
 
     pub fours-room : 4 + length (packed text) ≤ length out → at + 3 ≤ length out
-    fours-room r = omega (arith, p .stored .ends, ap length left, length-append (p .bytes) (threeOf (codeOf (getD text i 0)) (code 1) (code 2) (code 3) ++ bytesOf (codesLeft text (i + 4))))
+    fours-room r = omega (arith, p .stored .ends, ap length left, length-append (p .bytes) (threeOf (codeOf (getD text i 0)) (code 1) (code 2) (code 3) ++ codeBytes (codesLeft text (i + 4))))
 
     pub fours-more : {next : ℕ} {after : List ℕ} → Stored mid at (threeOf (codeOf (getD text i 0)) (code 1) (code 2) (code 3)) next after → PutFours out text (i + 4) next after
     fours-more s = record {
       bytes = p .bytes ++ threeOf (codeOf (getD text i 0)) (code 1) (code 2) (code 3);
       stored = then (p .stored) s;
-      rest = left ∙ sym (append-assoc (p .bytes) (threeOf (codeOf (getD text i 0)) (code 1) (code 2) (code 3)) (bytesOf (codesLeft text (i + 4))));
+      rest = left ∙ sym (append-assoc (p .bytes) (threeOf (codeOf (getD text i 0)) (code 1) (code 2) (code 3)) (codeBytes (codesLeft text (i + 4))));
     }
 
 -- and what is left behind them
 module _ {out text mid : List ℕ} {i at : ℕ} (p : PutFours out text i at mid) where
-  pub last-room : (size : ℕ) → 4 + length (packed text) ≤ size → at + length (bytesOf (codesLeft text i)) ≤ size
-  last-room size h = omega (arith, p .stored .ends, ap length (p .rest), length-append (p .bytes) (bytesOf (codesLeft text i)))
+  pub last-room : (size : ℕ) → 4 + length (packed text) ≤ size → at + length (codeBytes (codesLeft text i)) ≤ size
+  last-room size h = omega (arith, p .stored .ends, ap length (p .rest), length-append (p .bytes) (codeBytes (codesLeft text i)))
 
-  pub all-put : {next : ℕ} {after : List ℕ} → Stored mid at (bytesOf (codesLeft text i)) next after → Stored out 4 (packed text) next after
+  pub all-put : {next : ℕ} {after : List ℕ} → Stored mid at (codeBytes (codesLeft text i)) next after → Stored out 4 (packed text) next after
   all-put s = rw (p .rest) (then (p .stored) s)
 
 -- four codes are three bytes

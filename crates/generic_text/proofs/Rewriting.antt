@@ -17,7 +17,7 @@ use Rattle.numbers.proofs.Bytes.{byte-at}
 use Rattle.numbers.specs.Packing.{bitsIn, numbersIn}
 use Rattle.characters.specs.Characters.{characterOf, codeOf, areListed}
 use Rattle.generic_text.specs.Texts.{textOf, AreCharacters}
-use Rattle.generic_text.specs.Product.{Text, textWith, isGenericText, hoursIn, minutesIn, paddingIn, decoded, refused, headed, decode, isFit, headerOf, bytesOf, packed, encode}
+use Rattle.generic_text.specs.Product.{Text, textWith, isGenericText, hoursIn, minutesIn, paddingIn, decoded, refused, headed, decode, isFit, headerOf, codeBytes, packed, encode}
 use Rattle.generic_text.specs.Answers.{textWriting}
 use Rattle.generic_text.specs.Claims.{ReadWritable, AtMost17515, Closed, Rewritten, SameExactlyIfClosed}
 use Rattle.numbers.proofs.Packing.{both-bits, bits-in, whole, numbers-first, no-number, numbers-small, numbers-fit, length-bitsIn}
@@ -55,7 +55,7 @@ filled row h =
     record { zeros = c .0; short = c .1; is = c .2 }
 
 pub packed-filled : (cs : List ℕ) → Filled (bitsIn 6 (map codeOf cs ++ (0 ∷ []))) (packed cs)
-unfolding bytesOf
+unfolding codeBytes
 packed-filled cs = filled (bitsIn 6 (map codeOf cs ++ (0 ∷ []))) (bits-in 6 (map codeOf cs ++ (0 ∷ [])))
 
 -- bytes of the closed form, read
@@ -75,7 +75,7 @@ bytes-small (b ∷ bs) h = let k = h .0 in ap₂ (λ (n : ℕ) (l : List ℕ). n
 -- and written
 closed-packed : (bytes codes : List ℕ) (z : ℕ) → AreBytes bytes → AreCharacters codes → z < 8 → bitsIn 8 bytes ≡ bitsIn 6 (codes ++ (0 ∷ [])) ++ replicate z 0
     → packed (map characterOf codes) ≡ bytes
-unfolding bytesOf
+unfolding codeBytes
 closed-packed bytes codes z b h k e =
     let row = bitsIn 6 (codes ++ (0 ∷ [])) in
     let seven : z + (7 - z) ≡ 7 = omega arith in

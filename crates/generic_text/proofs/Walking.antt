@@ -1,14 +1,14 @@
 -- One code less to read, or four; and the characters or the tab that they are.
 -- Assumes nothing.
 use mathlib.Core.Path.{_≡_, refl, sym, ap, ap₂, _∙_, subst}
-use Prim.Native.Nat.{ℕ, suc, _+_, _-_, _*_, _/_, _%_, _^_, _≤_, _<_}
+use Prim.Native.Nat.{ℕ, _+_, _-_, _*_, _/_, _%_, _^_, _≤_, _<_}
 use mathlib.Core.Bool.{true, _&&_}
-use mathlib.Core.List.{List, [], _∷_, _++_, append-nil, append-assoc, map}
+use mathlib.Core.List.{List, [], _∷_, _++_, append-nil, map}
 use mathlib.Core.Option.{none, some}
 use native.Mathlib.Omega.{arith}
 use native.Mathlib.Numerals.{add-one}
 use lib.Dec.{ltb}
-use lib.ListN.{length, getD, drop, replicate, length-append, drop-of-length-le}
+use lib.ListN.{length, getD, drop, replicate, drop-of-length-le}
 use lib.Seq.{drop-cons}
 use borrow.Author.Tests.{ltb-true}
 use Rattle.numbers.specs.Packing.{bitsOf, bitsIn, numbersIn, digits}
@@ -19,7 +19,7 @@ use Rattle.characters.specs.Characters.{characters, characterOf}
 use Rattle.generic_text.specs.declared.Cursor.{Cursor}
 use Rattle.generic_text.specs.declared.Run.{Run}
 use Rattle.generic_text.specs.Texts.{before, textOf, AreCharacters}
-use Rattle.generic_text.specs.Cursor.{Even, codesFrom, startAt, NextCode, Passes, noRun, NextRun, isWhole, noFour, NextFour}
+use Rattle.generic_text.specs.Cursor.{Even, codesFrom, startAt, NextCode, Passes, noRun, NextRun, noFour, NextFour}
 use Rattle.generic_text.proofs.Texts.{text-end, text-character, text-none, text-characters}
 
 module _ (bytes : List ℕ) (s : Cursor) where

@@ -64,12 +64,12 @@ unfoldable pub headerOf : ℕ → ℕ → ℕ → List ℕ
 headerOf h m p = product / 64 ∷ (product % 64 * 4) ∷ (h * 4 + m / 16) ∷ (m % 16 * 16 + p) ∷ []
 
 -- the bytes of codes, with zero bits up to the byte's end: of seven, those that fill it
-unfoldable pub bytesOf : List ℕ → List ℕ
-bytesOf codes = numbersIn 8 (bitsIn 6 codes ++ replicate 7 0)
+unfoldable pub codeBytes : List ℕ → List ℕ
+codeBytes codes = numbersIn 8 (bitsIn 6 codes ++ replicate 7 0)
 
 -- the characters' codes, closed by one code 0
 abbrev pub packed : List ℕ → List ℕ
-packed cs = bytesOf (map codeOf cs ++ (0 ∷ []))
+packed cs = codeBytes (map codeOf cs ++ (0 ∷ []))
 
 unfoldable pub encode : Text → List ℕ
 encode t = headerOf (t .hours) (t .minutes) (t .padding) ++ packed (t .characters)

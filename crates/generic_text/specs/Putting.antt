@@ -6,7 +6,7 @@ use mathlib.Core.List.{List, [], _∷_, _++_, map}
 use lib.ListN.{drop}
 use Rattle.numbers.specs.Lent.{Stored}
 use Rattle.characters.specs.Characters.{codeOf}
-use Rattle.generic_text.specs.Product.{bytesOf, packed}
+use Rattle.generic_text.specs.Product.{codeBytes, packed}
 
 -- the codes from character i on, and the closing one
 abbrev pub codesLeft : List ℕ → ℕ → List ℕ
@@ -21,4 +21,4 @@ threeOf a b c d =
 pub record PutFours (out text : List ℕ) (i at : ℕ) (left : List ℕ) : Type 0 where
   pub bytes : List ℕ
   pub stored : Stored out 4 bytes at left
-  pub rest : packed text ≡ bytes ++ bytesOf (codesLeft text i)
+  pub rest : packed text ≡ bytes ++ codeBytes (codesLeft text i)

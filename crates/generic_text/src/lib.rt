@@ -7,7 +7,7 @@ ghost use lib.ListN.{length, replicate};
 ghost use Rattle.numbers.specs.Lent.{written, Stored};
 ghost use Rattle.characters.specs.Characters.{characters, codeOf, areListed};
 ghost use Rattle.generic_text.specs.Texts.{textOf};
-ghost use Rattle.generic_text.specs.Product.{decode, isGenericText, hoursIn, minutesIn, paddingIn, isFit, textWith, headerOf, bytesOf, packed};
+ghost use Rattle.generic_text.specs.Product.{decode, isGenericText, hoursIn, minutesIn, paddingIn, isFit, textWith, headerOf, codeBytes, packed};
 ghost use Rattle.generic_text.specs.Putting.{codesLeft, threeOf, PutFours};
 ghost use Rattle.generic_text.specs.Answers.{Reads, Writes};
 ghost use Rattle.generic_text.specs.Cursor.{Even, codesFrom, start, NextCode, noRun, NextRun, NextFour, isWhole, noFour, Fits, charactersIn, measured};
@@ -414,8 +414,8 @@ fn put_three(out: &mut [u8], at: usize, a: u8, b: u8, c: u8, d: u8) -> usize
 
 // The last characters, fewer than four, closed by one code 0 and zero bits up to the byte's end.
 fn put_last(out: &mut [u8], at: usize, text: &[u8]) -> usize
-    requires { ⌜ (at + length (bytesOf (codesLeft (now text) (length (now text) - length (now text) % 4))) ≤ length (now out)) × (areListed (now text) ≡ true) ⌝ }
-    ensures { λ r. ⌜ Stored (now (out .entry)) at (bytesOf (codesLeft (now (text .entry)) (length (now (text .entry)) - length (now (text .entry)) % 4))) r (now (out .exit)) ⌝ }
+    requires { ⌜ (at + length (codeBytes (codesLeft (now text) (length (now text) - length (now text) % 4))) ≤ length (now out)) × (areListed (now text) ≡ true) ⌝ }
+    ensures { λ r. ⌜ Stored (now (out .entry)) at (codeBytes (codesLeft (now (text .entry)) (length (now (text .entry)) - length (now (text .entry)) % 4))) r (now (out .exit)) ⌝ }
 {
     let left = text.len() % 4;
     let i = text.len() - left;

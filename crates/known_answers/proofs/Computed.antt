@@ -4,7 +4,7 @@ use mathlib.Core.Path.{refl}
 use Rattle.numbers.specs.Bits.{_⊕_, bit}
 use Rattle.numbers.specs.Signed.{signedIn}
 use Rattle.numbers.specs.Packing.{bitsOf, bitsIn, gather, numbersIn}
-use Rattle.fcs.specs.Fcs.{bits, step, fcs}
+use Rattle.fcs.specs.Fcs.{step, fcs}
 use Rattle.framing.specs.Stuffing.{escape, stuff}
 use Rattle.framing.specs.Frame.{lowFirst, enclosed, frameOf}
 use Rattle.collecting.specs.Step.{collected, unescaped, inside, checked, closed, taken, next, answerTo, shown}
@@ -22,7 +22,7 @@ use Rattle.uplink.specs.Contents.{contentOf, contents}
 use Rattle.uplink.specs.Samples.{bytesOf, rows, textual}
 use Rattle.characters.specs.Characters.{characterOf, placeOf, codeOf}
 use Rattle.generic_text.specs.Texts.{textOf}
-use Rattle.generic_text.specs.Product.{decode, headerOf, bytesOf, encode}
+use Rattle.generic_text.specs.Product.{decode, headerOf, codeBytes, encode}
 use Rattle.known_answers.specs.Row.{Holds, textsIn, done, _and_}
 use Rattle.known_answers.specs.Values.{Starred, Examples}
 
@@ -31,5 +31,5 @@ unfolding Holds _⊕_ bit signedIn bitsOf bitsIn step fcs escape stuff lowFirst 
 starred-hold = refl and refl and refl and refl and refl and refl and refl and refl and refl and refl and refl and refl and refl and refl and refl and refl and refl and refl and refl and refl and refl and refl and refl and refl and refl and refl and refl and refl and refl and done
 
 pub examples-hold : Examples
-unfolding Holds _⊕_ bit signedIn bitsOf bitsIn step fcs escape stuff lowFirst enclosed frameOf misfit reading heartbeatIn trackFrom positionOf altitudeOf speedOf climbOf reportIn goodPosition goodReport kindIn readMessage framesBefore walk payloadFrames dataIn contentOf contents bytesOf rows textual gather numbersIn characterOf placeOf codeOf textOf decode headerOf bytesOf encode textsIn
+unfolding Holds _⊕_ bit signedIn bitsOf bitsIn step fcs escape stuff lowFirst enclosed frameOf misfit reading heartbeatIn trackFrom positionOf altitudeOf speedOf climbOf reportIn goodPosition goodReport kindIn readMessage framesBefore walk payloadFrames dataIn contentOf contents bytesOf rows textual gather numbersIn characterOf placeOf codeOf textOf decode headerOf codeBytes encode textsIn
 examples-hold = refl and refl and refl and refl and refl and refl and refl and done

@@ -3,7 +3,7 @@
 use mathlib.Core.Path.{_≡_, refl, _∙_}
 use Prim.Native.Nat.{_+_, _-_, _%_, _≤_}
 use native.Mathlib.Omega.{arith}
-use lib.ListN.{length, getD}
+use lib.ListN.{length}
 use Rattle.characters.proofs.Listed.{listed-at}
 use Rattle.generic_text.specs.Putting.{PutFours}
 use Rattle.generic_text.proofs.Putting.{small, fours-start, fours-room, fours-more}
