@@ -1,23 +1,8 @@
 // The code characters of weather texts (001 §5.2.2.2; RULES 'Weather texts').
 ghost use mathlib.Core.Path.{_≡_};
-ghost use Rattle.characters.specs.Characters.{codeOf, isListed, areListed};
+ghost use Rattle.characters.specs.Characters.{isListed, areListed};
 
-// The code of a byte, 0 where the list lacks it.
-pub fn code_of(byte: u8) -> u8
-    ensures { λ r. ⌜ r ≡ codeOf byte ⌝ }
-{
-    if byte == 0x1E {
-        29
-    } else if byte == 0x0A {
-        30
-    } else if ((32 <= byte) & (byte <= 63)) | ((65 <= byte) & (byte <= 90)) {
-        byte % 64
-    } else {
-        0
-    }
-}
-
-// The list has every byte of a text. All are looked at, as then many are at once.
+// The list has every byte of a text. It does not stop at one that the list lacks, so that many can be tested at once.
 pub fn are_listed(text: &[u8]) -> bool
     ensures { λ r. ⌜ r ≡ areListed (now (text .entry)) ⌝ }
 {

@@ -6,7 +6,7 @@ use mathlib.Core.List.{List}
 use lib.ListN.{length}
 use Rattle.numbers.specs.Lent.{written}
 use Rattle.generic_text.specs.declared.TextReading.{TextReading}
-use Rattle.generic_text.specs.Product.{Text, Decoded, decode, encode}
+use Rattle.generic_text.specs.Product.{Text, decode, encode}
 use Rattle.generic_text.specs.Answers.{textReading, readNumber, readHours, readMinutes, readPadding, readLength, readOutput, textWriting}
 use Rattle.gdl90.specs.declared.TextAnswer.{TextAnswer}
 use Rattle.gdl90.specs.declared.WriteAnswer.{WriteAnswer}

@@ -11,11 +11,11 @@ use Rattle.numbers.specs.Bits.{bit}
 use Rattle.numbers.specs.Lent.{Stored}
 use Rattle.numbers.specs.Packing.{bitsOf, bitsIn, gather, numbersIn}
 use Rattle.numbers.proofs.Bytes.{drop-three}
-use Rattle.numbers.proofs.Packing.{next-number, length-bitsIn, bitsIn-append, bits-more, digits-first}
+use Rattle.numbers.proofs.Packing.{next-number, length-bitsIn, bitsIn-append, bits-more, groups-first}
 use Rattle.numbers.proofs.Storing.{then}
 use Rattle.characters.specs.Characters.{codeOf}
 use Rattle.characters.proofs.Inverse.{code-lt}
-use Rattle.generic_text.specs.Product.{headerOf, codeBytes, packed, encode}
+use Rattle.generic_text.specs.Product.{headerOf, codeBytes, closedBytes, encode}
 use Rattle.generic_text.specs.Putting.{codesLeft, threeOf, PutFours}
 use Rattle.generic_text.specs.Claims.{Size}
 use Rattle.generic_text.proofs.Rewriting.{packed-filled}
@@ -37,7 +37,7 @@ four-bits a b c d rest ha hb hc hd =
     let last : n / 1 ≡ n = omega arith in
     ap (numbersIn 8)
     (bits-more 6 0 0 (a ∷ b ∷ c ∷ d ∷ []) rest (ha, (hb, (hc, (hd, tt)))) ∙ ap (λ (k : ℕ). bitsOf 24 (((k * 64 + b) * 64 + c) * 64 + d) ++ rest) none)
-    ∙ digits-first 7 3 n rest
+    ∙ groups-first 7 3 n rest
     ∙ ap (λ (k : ℕ). n / 65536 % 256 ∷ n / 256 % 256 ∷ k % 256 ∷ numbersIn 8 rest) last
 
 four-filled : (a b c d : ℕ) (codes : List ℕ) → a < 64 → b < 64 → c < 64 → d < 64 → codeBytes (a ∷ b ∷ c ∷ d ∷ codes) ≡ threeOf a b c d ++ codeBytes codes
@@ -101,14 +101,14 @@ module _ {out text : List ℕ} where
         ∙ ap (λ (l : List ℕ). getD text i 0 ∷ getD text (i + 1) 0 ∷ getD text (i + 2) 0 ∷ l)
         (drop-cons text (i + 3) 0 (omega arith) ∙ ap (λ (n : ℕ). getD text (i + 3) 0 ∷ drop n text) four))
 
-    left : packed text ≡ p .bytes ++ (threeOf (codeOf (getD text i 0)) (code 1) (code 2) (code 3) ++ codeBytes (codesLeft text (i + 4)))
+    left : closedBytes text ≡ p .bytes ++ (threeOf (codeOf (getD text i 0)) (code 1) (code 2) (code 3) ++ codeBytes (codesLeft text (i + 4)))
     left =
         p .rest
         ∙ ap (λ (l : List ℕ). p .bytes ++ l)
         (ap codeBytes next-four
         ∙ four-filled (codeOf (getD text i 0)) (code 1) (code 2) (code 3) (codesLeft text (i + 4)) (code-lt _) (code-lt _) (code-lt _) (code-lt _))
 
-    pub fours-room : 4 + length (packed text) ≤ length out → at + 3 ≤ length out
+    pub fours-room : 4 + length (closedBytes text) ≤ length out → at + 3 ≤ length out
     fours-room r = omega (arith, p .stored .ends, ap length left, length-append (p .bytes) (threeOf (codeOf (getD text i 0)) (code 1) (code 2) (code 3) ++ codeBytes (codesLeft text (i + 4))))
 
     pub fours-more : {next : ℕ} {after : List ℕ} → Stored mid at (threeOf (codeOf (getD text i 0)) (code 1) (code 2) (code 3)) next after → PutFours out text (i + 4) next after
@@ -120,19 +120,19 @@ module _ {out text : List ℕ} where
 
 -- and what is left behind them
 module _ {out text mid : List ℕ} {i at : ℕ} (p : PutFours out text i at mid) where
-  pub last-room : (size : ℕ) → 4 + length (packed text) ≤ size → at + length (codeBytes (codesLeft text i)) ≤ size
+  pub last-room : (size : ℕ) → 4 + length (closedBytes text) ≤ size → at + length (codeBytes (codesLeft text i)) ≤ size
   last-room size h = omega (arith, p .stored .ends, ap length (p .rest), length-append (p .bytes) (codeBytes (codesLeft text i)))
 
-  pub all-put : {next : ℕ} {after : List ℕ} → Stored mid at (codeBytes (codesLeft text i)) next after → Stored out 4 (packed text) next after
+  pub all-put : {next : ℕ} {after : List ℕ} → Stored mid at (codeBytes (codesLeft text i)) next after → Stored out 4 (closedBytes text) next after
   all-put s = rw (p .rest) (then (p .stored) s)
 
 -- four codes are three bytes
-pub packed-length : (cs : List ℕ) → length (packed cs) ≡ suc (length cs) - suc (length cs) / 4
+pub packed-length : (cs : List ℕ) → length (closedBytes cs) ≡ suc (length cs) - suc (length cs) / 4
 packed-length cs =
     let p = packed-filled cs in
     let codes = map codeOf cs ++ (0 ∷ []) in
-    let bits : length (packed cs) * 8 ≡ length codes * 6 + p .zeros =
-    sym (length-bitsIn 8 (packed cs)) ∙ ap length (p .is) ∙ length-append (bitsIn 6 codes) (replicate (p .zeros) 0)
+    let bits : length (closedBytes cs) * 8 ≡ length codes * 6 + p .zeros =
+    sym (length-bitsIn 8 (closedBytes cs)) ∙ ap length (p .is) ∙ length-append (bitsIn 6 codes) (replicate (p .zeros) 0)
     ∙ ap₂ (λ (m n : ℕ). m + n) (length-bitsIn 6 codes) (length-replicate (p .zeros) 0) in
     omega (arith, p .short, length-append (map codeOf cs) (0 ∷ []), length-map cs codeOf)
 

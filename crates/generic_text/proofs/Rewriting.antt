@@ -16,8 +16,8 @@ use Rattle.numbers.proofs.Every.{both}
 use Rattle.numbers.proofs.Bytes.{byte-at}
 use Rattle.numbers.specs.Packing.{bitsIn, numbersIn}
 use Rattle.characters.specs.Characters.{characterOf, codeOf, areListed}
-use Rattle.generic_text.specs.Texts.{textOf, AreCharacters}
-use Rattle.generic_text.specs.Product.{Text, textWith, isGenericText, hoursIn, minutesIn, paddingIn, decoded, refused, headed, decode, isFit, headerOf, codeBytes, packed, encode}
+use Rattle.generic_text.specs.Texts.{textOfCodes, AreCharacters}
+use Rattle.generic_text.specs.Product.{Text, textWith, isGenericText, hoursIn, minutesIn, paddingIn, decoded, refused, withHeader, decode, isFit, headerOf, codeBytes, closedBytes, encode}
 use Rattle.generic_text.specs.Answers.{textWriting}
 use Rattle.generic_text.specs.Claims.{ReadWritable, AtMost17515, Closed, Rewritten, SameExactlyIfClosed}
 use Rattle.numbers.proofs.Packing.{both-bits, bits-in, whole, numbers-first, no-number, numbers-small, numbers-fit, length-bitsIn}
@@ -54,17 +54,17 @@ filled row h =
     let c = cut row _ (w .rest) (w .is) (w .fewer) in
     record { zeros = c .0; short = c .1; is = c .2 }
 
-pub packed-filled : (cs : List ℕ) → Filled (bitsIn 6 (map codeOf cs ++ (0 ∷ []))) (packed cs)
+pub packed-filled : (cs : List ℕ) → Filled (bitsIn 6 (map codeOf cs ++ (0 ∷ []))) (closedBytes cs)
 unfolding codeBytes
 packed-filled cs = filled (bitsIn 6 (map codeOf cs ++ (0 ∷ []))) (bits-in 6 (map codeOf cs ++ (0 ∷ [])))
 
 -- bytes of the closed form, read
 closed-text : (bytes codes : List ℕ) (z : ℕ) → AreCharacters codes → bitsIn 8 bytes ≡ bitsIn 6 (codes ++ (0 ∷ [])) ++ replicate z 0
-    → textOf (numbersIn 6 (bitsIn 8 bytes)) ≡ some (map characterOf codes)
+    → textOfCodes (numbersIn 6 (bitsIn 8 bytes)) ≡ some (map characterOf codes)
 closed-text bytes codes z h e =
     let rest = numbersIn 6 (replicate z 0) in
-    ap (λ (l : List ℕ). textOf (numbersIn 6 l)) e
-    ∙ ap textOf (numbers-first 5 (codes ++ (0 ∷ [])) (replicate z 0) ∙ ap (λ (l : List ℕ). l ++ rest) (codes-small codes h) ∙ append-snoc codes 0 rest)
+    ap (λ (l : List ℕ). textOfCodes (numbersIn 6 l)) e
+    ∙ ap textOfCodes (numbers-first 5 (codes ++ (0 ∷ [])) (replicate z 0) ∙ ap (λ (l : List ℕ). l ++ rest) (codes-small codes h) ∙ append-snoc codes 0 rest)
     ∙ text-closed codes rest h
 
 bytes-small : (bs : List ℕ) → AreBytes bs → map (λ n. n % 256) bs ≡ bs
@@ -74,7 +74,7 @@ bytes-small (b ∷ bs) h = let k = h .0 in ap₂ (λ (n : ℕ) (l : List ℕ). n
 
 -- and written
 closed-packed : (bytes codes : List ℕ) (z : ℕ) → AreBytes bytes → AreCharacters codes → z < 8 → bitsIn 8 bytes ≡ bitsIn 6 (codes ++ (0 ∷ [])) ++ replicate z 0
-    → packed (map characterOf codes) ≡ bytes
+    → closedBytes (map characterOf codes) ≡ bytes
 unfolding codeBytes
 closed-packed bytes codes z b h k e =
     let row = bitsIn 6 (codes ++ (0 ∷ [])) in
@@ -88,7 +88,7 @@ closed-packed bytes codes z b h k e =
 
 -- what a text's bytes hold
 pub decode-is : (apdu : List ℕ) → 4 ≤ length apdu → isGenericText (getD apdu 0 0) (getD apdu 1 0) (getD apdu 2 0) ≡ true
-    → decode apdu ≡ headed (getD apdu 2 0) (getD apdu 3 0) (textOf (numbersIn 6 (bitsIn 8 (drop 4 apdu))))
+    → decode apdu ≡ withHeader (getD apdu 2 0) (getD apdu 3 0) (textOfCodes (numbersIn 6 (bitsIn 8 (drop 4 apdu))))
 unfolding decode
 decode-is apdu h e = simp (le-ltb (length apdu) 4 h, e)
 
@@ -96,14 +96,14 @@ decode-is apdu h e = simp (le-ltb (length apdu) 4 h, e)
 record Accepted (apdu : List ℕ) (t : Text) : Type 0 where
   whole : 4 ≤ length apdu
   header : isGenericText (getD apdu 0 0) (getD apdu 1 0) (getD apdu 2 0) ≡ true
-  is : headed (getD apdu 2 0) (getD apdu 3 0) (textOf (numbersIn 6 (bitsIn 8 (drop 4 apdu)))) ≡ decoded t
+  is : withHeader (getD apdu 2 0) (getD apdu 3 0) (textOfCodes (numbersIn 6 (bitsIn 8 (drop 4 apdu)))) ≡ decoded t
 
 accepted : (apdu : List ℕ) (t : Text) → decode apdu ≡ decoded t → Accepted apdu t
 unfolding decode
 accepted apdu t = go (ltb (length apdu) 4) refl (isGenericText (getD apdu 0 0) (getD apdu 1 0) (getD apdu 2 0)) refl
   where
     go : (s : Bool) → ltb (length apdu) 4 ≡ s → (u : Bool) → isGenericText (getD apdu 0 0) (getD apdu 1 0) (getD apdu 2 0) ≡ u
-        → cond s (refused 14) (cond u (headed (getD apdu 2 0) (getD apdu 3 0) (textOf (numbersIn 6 (bitsIn 8 (drop 4 apdu))))) (refused 15)) ≡ decoded t
+        → cond s (refused 14) (cond u (withHeader (getD apdu 2 0) (getD apdu 3 0) (textOfCodes (numbersIn 6 (bitsIn 8 (drop 4 apdu))))) (refused 15)) ≡ decoded t
         → Accepted apdu t
     go true e u f h = absurd (let z : _≡_ {A = ℕ} 0 1 = cc in omega arith)
     go false e true f h = record { whole = ltb-false _ _ e; header = f; is = h }
@@ -123,7 +123,7 @@ module _ (h m p : ℕ) (a : h < 32) (b : m < 64) (c : p < 16) where
   good-header : isGenericText 6 116 (h * 4 + m / 16) ≡ true
   good-header = eq-eqb (0 + (h * 4 + m / 16) / 128) 0 (omega arith)
 
-  header-back : (cs : List ℕ) → headed (h * 4 + m / 16) (m % 16 * 16 + p) (some cs) ≡ decoded (textWith h m p cs)
+  header-back : (cs : List ℕ) → withHeader (h * 4 + m / 16) (m % 16 * 16 + p) (some cs) ≡ decoded (textWith h m p cs)
   header-back cs =
       let hours : hoursIn (h * 4 + m / 16) ≡ h = omega arith in
       let minutes : minutesIn (h * 4 + m / 16) (m % 16 * 16 + p) ≡ m = omega arith in
@@ -136,12 +136,12 @@ decode-encode t f l =
     let b = fits (t .hours) (t .minutes) (t .padding) f in
     let p = packed-filled (t .characters) in
     decode-is (encode t) (omega arith) (good-header (t .hours) (t .minutes) (t .padding) (b .0) (b .1) (b .2))
-    ∙ ap (headed _ _)
-    (closed-text (packed (t .characters)) (map codeOf (t .characters)) (p .zeros) (are-characters (t .characters) l) (p .is) ∙ ap some (characters-back (t .characters) l))
+    ∙ ap (withHeader _ _)
+    (closed-text (closedBytes (t .characters)) (map codeOf (t .characters)) (p .zeros) (are-characters (t .characters) l) (p .is) ∙ ap some (characters-back (t .characters) l))
     ∙ header-back (t .hours) (t .minutes) (t .padding) (b .0) (b .1) (b .2) (t .characters)
 
 -- the text of accepted bytes
-text-in : (c d : ℕ) (o : Option (List ℕ)) (t : Text) → headed c d o ≡ decoded t → (cs : List ℕ) × (o ≡ some cs) × (t ≡ textWith (hoursIn c) (minutesIn c d) (paddingIn d) cs)
+text-in : (c d : ℕ) (o : Option (List ℕ)) (t : Text) → withHeader c d o ≡ decoded t → (cs : List ℕ) × (o ≡ some cs) × (t ≡ textWith (hoursIn c) (minutesIn c d) (paddingIn d) cs)
 text-in c d (some cs) t e = (cs, refl, (cc))
 text-in c d none t e = absurd (let z : _≡_ {A = ℕ} 0 1 = cc in omega arith)
 
@@ -153,7 +153,7 @@ writable apdu t b e =
     let c = getD apdu 2 0 in
     let d = getD apdu 3 0 in
     let codes = numbersIn 6 (bitsIn 8 (drop 4 apdu)) in
-    let x = text-in c d (textOf codes) t (a .is) in
+    let x = text-in c d (textOfCodes codes) t (a .is) in
     let small : d < 256 = byte-at apdu 3 b in (
       ap (λ (t : Text). isFit (t .hours) (t .minutes) (t .padding)) (x .2) ∙ fit (hoursIn c) (minutesIn c d) (paddingIn d) (omega arith) (omega arith) (omega arith),
       ap (λ (t : Text). areListed (t .characters)) (x .2) ∙ is-listed codes (x .0) (x .1),
@@ -167,7 +167,7 @@ pub at-most-17515 : AtMost17515
 at-most-17515 apdu t h e =
     let row = bitsIn 8 (drop 4 apdu) in
     let codes = numbersIn 6 row in
-    let x = text-in _ _ (textOf codes) t (accepted apdu t e .is) in
+    let x = text-in _ _ (textOfCodes codes) t (accepted apdu t e .is) in
     omega (
       arith,
       ap (λ (t : Text). length (t .characters)) (x .2),
@@ -219,7 +219,7 @@ closed-rewritten (_ ∷ _ ∷ []) b r = absurd (omega (arith, r .whole))
 closed-rewritten (_ ∷ _ ∷ _ ∷ []) b r = absurd (omega (arith, r .whole))
 closed-rewritten (x ∷ y ∷ c ∷ d ∷ bytes) b r = record {
   text = textWith (hoursIn c) (minutesIn c d) (paddingIn d) (map characterOf (r .codes));
-  read = decode-is (x ∷ y ∷ c ∷ d ∷ bytes) (r .whole) (r .header) ∙ ap (headed c d) (closed-text bytes (r .codes) (r .zeros) (r .plain) (r .bits));
+  read = decode-is (x ∷ y ∷ c ∷ d ∷ bytes) (r .whole) (r .header) ∙ ap (withHeader c d) (closed-text bytes (r .codes) (r .zeros) (r .plain) (r .bits));
   same =
       ap₂ (λ (k l : List ℕ). k ++ l) (header-same x y c d (b .0) (b .1 .0) (b .1 .1 .0) (b .1 .1 .1 .0) (r .header))
       (closed-packed bytes (r .codes) (r .zeros) (b .1 .1 .1 .1) (r .plain) (r .short) (r .bits));

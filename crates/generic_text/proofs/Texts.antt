@@ -10,10 +10,10 @@ use lib.Dec.{eqb}
 use lib.ListN.{length, replicate, length-append, length-replicate}
 use Rattle.numbers.proofs.Every.{chosen}
 use borrow.Author.Tests.{eqb-false, ne-eqb, eq-eqb, lt-ltb}
-use Rattle.characters.specs.Characters.{characterOf, placeOf, codeOf, areListed}
+use Rattle.characters.specs.Characters.{characterOf, placeIn, codeOf, areListed}
 use Rattle.characters.proofs.Inverse.{code-small, code-back, character-back, positive}
 use Rattle.characters.proofs.Listed.{listed-both, listed-append}
-use Rattle.generic_text.specs.Texts.{before, beforeCharacter, textOf, AreCharacters}
+use Rattle.generic_text.specs.Texts.{before, beforeCharacter, textOfCodes, AreCharacters}
 
 characters-nonzero : (code : ℕ) → 0 < characterOf code → (eqb code 0 ≡ false) × (eqb code 28 ≡ false) × (eqb (characterOf code) 0 ≡ false)
 unfolding characterOf
@@ -23,18 +23,18 @@ characters-nonzero code h = (
   ne-eqb (characterOf code) 0 (λ e. omega arith),
 )
 
-pub text-end : (cs : List ℕ) → textOf (0 ∷ cs) ≡ some []
-unfolding textOf
+pub text-end : (cs : List ℕ) → textOfCodes (0 ∷ cs) ≡ some []
+unfolding textOfCodes
 text-end [] = refl
 text-end (n ∷ cs) = refl
 
-pub text-character : (code : ℕ) (cs : List ℕ) → 0 < characterOf code → textOf (code ∷ cs) ≡ before (characterOf code ∷ []) (textOf cs)
-unfolding textOf
+pub text-character : (code : ℕ) (cs : List ℕ) → 0 < characterOf code → textOfCodes (code ∷ cs) ≡ before (characterOf code ∷ []) (textOfCodes cs)
+unfolding textOfCodes
 text-character code [] h = let n = characters-nonzero code h in simp (n .0, n .2)
 text-character code (n ∷ cs) h = let n = characters-nonzero code h in simp (n .0, n .1, n .2)
 
-pub text-none : (code : ℕ) (cs : List ℕ) → (code ≡ 0 → ⊥) → (code ≡ 28 → ⊥) → characterOf code ≡ 0 → textOf (code ∷ cs) ≡ none
-unfolding textOf
+pub text-none : (code : ℕ) (cs : List ℕ) → (code ≡ 0 → ⊥) → (code ≡ 28 → ⊥) → characterOf code ≡ 0 → textOfCodes (code ∷ cs) ≡ none
+unfolding textOfCodes
 text-none code [] h k e = simp (ne-eqb code 0 h, eq-eqb (characterOf code) 0 e)
 text-none code (n ∷ cs) h k e = simp (ne-eqb code 0 h, ne-eqb code 28 k, eq-eqb (characterOf code) 0 e)
 
@@ -47,15 +47,15 @@ before-none (some t) = refl
 before-none none = refl
 
 -- characters before a text
-pub text-characters : (codes rest : List ℕ) → AreCharacters codes → textOf (codes ++ rest) ≡ before (map characterOf codes) (textOf rest)
-text-characters [] rest h = before-none (textOf rest)
+pub text-characters : (codes rest : List ℕ) → AreCharacters codes → textOfCodes (codes ++ rest) ≡ before (map characterOf codes) (textOfCodes rest)
+text-characters [] rest h = before-none (textOfCodes rest)
 text-characters (code ∷ codes) rest h =
     text-character code (codes ++ rest) (h .0)
     ∙ ap (before (characterOf code ∷ [])) (text-characters codes rest (h .1))
-    ∙ before-more (characterOf code ∷ []) (map characterOf codes) (textOf rest)
+    ∙ before-more (characterOf code ∷ []) (map characterOf codes) (textOfCodes rest)
 
 -- and up to the closing code
-pub text-closed : (codes rest : List ℕ) → AreCharacters codes → textOf (codes ++ 0 ∷ rest) ≡ some (map characterOf codes)
+pub text-closed : (codes rest : List ℕ) → AreCharacters codes → textOfCodes (codes ++ 0 ∷ rest) ≡ some (map characterOf codes)
 text-closed codes rest h =
     text-characters codes (0 ∷ rest) h ∙ ap (before (map characterOf codes)) (text-end rest) ∙ ap some (append-nil (map characterOf codes))
 
@@ -99,21 +99,21 @@ module _ (P : List ℕ → List ℕ → Type 0) (ended : (cs : List ℕ) → P c
   if-tab n cs none h = tt
   if-tab n cs (some t) h = tabbed n cs t h
 
-  if-text : (codes : List ℕ) → If codes (textOf codes)
-  unfolding textOf
+  if-text : (codes : List ℕ) → If codes (textOfCodes codes)
+  unfolding textOfCodes
   if-text [] = ended []
   if-text (c ∷ []) = chosen (If (c ∷ [])) c 0 _ _ (λ e. ended (c ∷ [])) (if-character c [] (some []) (ended []))
   if-text (c ∷ n ∷ cs) =
       chosen (If (c ∷ n ∷ cs)) c 0 _ _ (λ e. ended (c ∷ n ∷ cs))
       (chosen (If (c ∷ n ∷ cs)) c 28 _ _
-      (λ e. subst (λ (k : ℕ). If (k ∷ n ∷ cs) (before (replicate n 32) (textOf cs))) (sym e) (if-tab n cs (textOf cs) (if-text cs)))
-      (if-character c (n ∷ cs) (textOf (n ∷ cs)) (if-text (n ∷ cs))))
+      (λ e. subst (λ (k : ℕ). If (k ∷ n ∷ cs) (before (replicate n 32) (textOfCodes cs))) (sym e) (if-tab n cs (textOfCodes cs) (if-text cs)))
+      (if-character c (n ∷ cs) (textOfCodes (n ∷ cs)) (if-text (n ∷ cs))))
 
-  pub every-text : (codes t : List ℕ) → textOf codes ≡ some t → P codes t
+  pub every-text : (codes t : List ℕ) → textOfCodes codes ≡ some t → P codes t
   every-text codes t e = subst (If codes) e (if-text codes)
 
 listed-spaces : (n : ℕ) → areListed (replicate n 32) ≡ true
-unfolding areListed codeOf placeOf
+unfolding areListed codeOf placeIn
 listed-spaces zero = refl
 listed-spaces (suc n) = listed-spaces n
 
@@ -127,7 +127,7 @@ unfolding areListed
 listed-one code h = simp (lt-ltb 0 (codeOf (characterOf code)) (omega (arith, code-back code h, code-positive code h)))
 
 -- what is read can be written
-pub is-listed : (codes t : List ℕ) → textOf codes ≡ some t → areListed t ≡ true
+pub is-listed : (codes t : List ℕ) → textOfCodes codes ≡ some t → areListed t ≡ true
 unfolding areListed
 is-listed =
     every-text (λ cs t. areListed t ≡ true) (λ cs. refl)
@@ -135,7 +135,7 @@ is-listed =
     (λ n cs t e. listed-append (replicate n 32) t (listed-spaces n) e)
 
 -- two codes make 63 spaces at most
-pub text-size : (codes t : List ℕ) → textOf codes ≡ some t → map (λ n. n % 64) codes ≡ codes → length t ≤ length codes / 2 * 63 + length codes % 2
+pub text-size : (codes t : List ℕ) → textOfCodes codes ≡ some t → map (λ n. n % 64) codes ≡ codes → length t ≤ length codes / 2 * 63 + length codes % 2
 text-size =
     every-text (λ cs t. map (λ n. n % 64) cs ≡ cs → length t ≤ length cs / 2 * 63 + length cs % 2) (λ cs e. omega arith)
     (λ c cs t h k e. let r = k (cc e) in omega arith)

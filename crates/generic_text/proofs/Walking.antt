@@ -11,14 +11,14 @@ use lib.Dec.{ltb}
 use lib.ListN.{length, getD, drop, replicate, drop-of-length-le}
 use lib.Seq.{drop-cons}
 use borrow.Author.Tests.{ltb-true}
-use Rattle.numbers.specs.Packing.{bitsOf, bitsIn, numbersIn, digits}
+use Rattle.numbers.specs.Packing.{bitsOf, bitsIn, numbersIn}
 use Rattle.numbers.proofs.Bytes.{drop-three}
 use Rattle.numbers.proofs.Every.{both}
-use Rattle.numbers.proofs.Packing.{number-first, next-number, no-number, length-bitsOf, bits-more, bitsIn-append, digits-first}
-use Rattle.characters.specs.Characters.{characters, characterOf}
+use Rattle.numbers.proofs.Packing.{groups, number-first, next-number, no-number, length-bitsOf, bits-more, bitsIn-append, groups-first}
+use Rattle.characters.specs.Characters.{codeCharacters, characterOf}
 use Rattle.generic_text.specs.declared.Cursor.{Cursor}
 use Rattle.generic_text.specs.declared.Run.{Run}
-use Rattle.generic_text.specs.Texts.{before, textOf, AreCharacters}
+use Rattle.generic_text.specs.Texts.{before, textOfCodes, AreCharacters}
 use Rattle.generic_text.specs.Cursor.{Even, codesFrom, startAt, NextCode, Passes, noRun, NextRun, noFour, NextFour}
 use Rattle.generic_text.proofs.Texts.{text-end, text-character, text-none, text-characters}
 
@@ -65,7 +65,7 @@ module _ (bytes : List ℕ) (s : Cursor) where
   }
 
 -- what a table holds that is the list of code characters
-pub looked-up : (table : List ℕ) (code : ℕ) → table ≡ characters → getD table code 0 ≡ characterOf code
+pub looked-up : (table : List ℕ) (code : ℕ) → table ≡ codeCharacters → getD table code 0 ≡ characterOf code
 unfolding characterOf
 looked-up table code e = ap (λ (l : List ℕ). getD l code 0) e
 
@@ -80,7 +80,7 @@ module _ (bytes : List ℕ) (s : Cursor) (none-left : s .width ≡ 0) (room : s 
   abbrev behind : Cursor
   behind = startAt (s .at + 3)
 
-  four-codes : codesFrom bytes s ≡ digits 6 4 joined ++ codesFrom bytes behind
+  four-codes : codesFrom bytes s ≡ groups 6 4 joined ++ codesFrom bytes behind
   unfolding codesFrom bitsOf
   four-codes =
       let a = getD bytes (s .at) 0 in
@@ -93,9 +93,9 @@ module _ (bytes : List ℕ) (s : Cursor) (none-left : s .width ≡ 0) (room : s 
       (bitsIn-append 8 (a ∷ b ∷ c ∷ []) rest
       ∙ bits-more 8 0 0 (a ∷ b ∷ c ∷ []) (bitsIn 8 rest) (small (s .at), (small (s .at + 1), (small (s .at + 2), tt)))
       ∙ ap (λ (k : ℕ). bitsOf 24 ((k * 256 + b) * 256 + c) ++ bitsIn 8 rest) first)
-      ∙ digits-first 5 4 joined (bitsIn 8 rest)
+      ∙ groups-first 5 4 joined (bitsIn 8 rest)
 
-  pub four-more : (table : List ℕ) → table ≡ characters → (m : ℕ) → m ≡ joined
+  pub four-more : (table : List ℕ) → table ≡ codeCharacters → (m : ℕ) → m ≡ joined
       → NextFour bytes s (record {
         a = getD table (m / 262144 % 64) 0;
         b = getD table (m / 4096 % 64) 0;
@@ -111,7 +111,7 @@ module _ (bytes : List ℕ) (s : Cursor) (none-left : s .width ≡ 0) (room : s 
         let u = m % 64 in
         let codes : List ℕ = x ∷ y ∷ z ∷ u ∷ [] in
         let is : codesFrom bytes s ≡ codes ++ codesFrom bytes behind =
-        four-codes ∙ ap (λ (n : ℕ). digits 6 4 n ++ codesFrom bytes behind) (sym e) ∙ ap (λ (n : ℕ). x ∷ y ∷ z ∷ n % 64 ∷ codesFrom bytes behind) (omega arith) in
+        four-codes ∙ ap (λ (n : ℕ). groups 6 4 n ++ codesFrom bytes behind) (sym e) ∙ ap (λ (n : ℕ). x ∷ y ∷ z ∷ n % 64 ∷ codesFrom bytes behind) (omega arith) in
         let p = both (ltb 0 (getD table x 0) && ltb 0 (getD table y 0)) _ whole in
         let q = both (ltb 0 (getD table x 0)) _ (p .0) in
         let r = both (ltb 0 (getD table z 0)) _ (p .1) in
@@ -119,7 +119,7 @@ module _ (bytes : List ℕ) (s : Cursor) (none-left : s .width ≡ 0) (room : s 
         let all : AreCharacters codes = (positive x (q .0), (positive y (q .1), (positive z (r .0), (positive u (r .1), tt)))) in
         let same : map characterOf codes ≡ getD table x 0 ∷ getD table y 0 ∷ getD table z 0 ∷ getD table u 0 ∷ [] = rw (looked-up table x t, looked-up table y t, looked-up table z t, looked-up table u t) in
         record {
-          is = ap textOf is ∙ text-characters codes (codesFrom bytes behind) all ∙ ap (λ (l : List ℕ). before l (textOf (codesFrom bytes behind))) same;
+          is = ap textOfCodes is ∙ text-characters codes (codesFrom bytes behind) all ∙ ap (λ (l : List ℕ). before l (textOfCodes (codesFrom bytes behind))) same;
           fewer = omega (arith, ap length is);
           even = omega arith;
         };
@@ -127,26 +127,26 @@ module _ (bytes : List ℕ) (s : Cursor) (none-left : s .width ≡ 0) (room : s 
 
 -- of codes that are left
 module _ (bytes codes : List ℕ) where
-  pub run-ends : (rest : Cursor) → textOf codes ≡ some [] → NextRun bytes codes (noRun 0 rest)
+  pub run-ends : (rest : Cursor) → textOfCodes codes ≡ some [] → NextRun bytes codes (noRun 0 rest)
   run-ends rest e = record { run = λ n. absurd (n refl); ends = λ z y. e; faults = λ z n. absurd (n refl) }
 
-  pub run-faults : (rest : Cursor) → textOf codes ≡ none → NextRun bytes codes (noRun 1 rest)
+  pub run-faults : (rest : Cursor) → textOfCodes codes ≡ none → NextRun bytes codes (noRun 1 rest)
   run-faults rest e = record { run = λ n. absurd (n refl); ends = λ z y. absurd (omega arith); faults = λ z n. e }
 
   pub run-passes : (c n : ℕ) (rest : Cursor) → (c ≡ 0 → ⊥) → Passes bytes codes (replicate n c) rest → NextRun bytes codes (record { byte = c; times = n; rest = rest })
   run-passes c n rest h p = record { run = λ k. p; ends = λ z y. absurd (h z); faults = λ z k. absurd (h z) }
 
-  -- they start with one
+  -- they behindHeader with one
   module _ (code : ℕ) (t : Cursor) (e : codes ≡ code ∷ codesFrom bytes t) where
-    pub ended : code ≡ 0 → textOf codes ≡ some []
-    ended z = ap textOf (e ∙ ap (λ (k : ℕ). k ∷ codesFrom bytes t) z) ∙ text-end (codesFrom bytes t)
+    pub ended : code ≡ 0 → textOfCodes codes ≡ some []
+    ended z = ap textOfCodes (e ∙ ap (λ (k : ℕ). k ∷ codesFrom bytes t) z) ∙ text-end (codesFrom bytes t)
 
-    pub no-character : (code ≡ 0 → ⊥) → (code ≡ 28 → ⊥) → characterOf code ≡ 0 → textOf codes ≡ none
-    no-character h k z = ap textOf e ∙ text-none code (codesFrom bytes t) h k z
+    pub no-character : (code ≡ 0 → ⊥) → (code ≡ 28 → ⊥) → characterOf code ≡ 0 → textOfCodes codes ≡ none
+    no-character h k z = ap textOfCodes e ∙ text-none code (codesFrom bytes t) h k z
 
     pub character-passes : (c : ℕ) → c ≡ characterOf code → (c ≡ 0 → ⊥) → Even t → Passes bytes codes (replicate 1 c) t
     character-passes c f h v = record {
-      is = ap textOf e ∙ text-character code (codesFrom bytes t) (omega arith) ∙ ap (λ (b : ℕ). before (b ∷ []) (textOf (codesFrom bytes t))) (sym f);
+      is = ap textOfCodes e ∙ text-character code (codesFrom bytes t) (omega arith) ∙ ap (λ (b : ℕ). before (b ∷ []) (textOfCodes (codesFrom bytes t))) (sym f);
       fewer = omega (arith, ap length e);
       even = v;
     }
@@ -156,13 +156,13 @@ module _ (bytes codes : List ℕ) where
 
 -- behind a tab
 pub counted : (bytes codes : List ℕ) (n : ℕ) (t : Cursor) → codes ≡ n ∷ codesFrom bytes t → Even t → Passes bytes (28 ∷ codes) (replicate n 32) t
-unfolding textOf
-counted bytes codes n t e v = record { is = ap (λ (l : List ℕ). textOf (28 ∷ l)) e; fewer = omega (arith, ap length e); even = v }
+unfolding textOfCodes
+counted bytes codes n t e v = record { is = ap (λ (l : List ℕ). textOfCodes (28 ∷ l)) e; fewer = omega (arith, ap length e); even = v }
 
-pub uncounted : (codes : List ℕ) → codes ≡ [] → textOf (28 ∷ codes) ≡ none
-unfolding textOf characterOf
-uncounted codes e = ap (λ (l : List ℕ). textOf (28 ∷ l)) e
+pub uncounted : (codes : List ℕ) → codes ≡ [] → textOfCodes (28 ∷ codes) ≡ none
+unfolding textOfCodes characterOf
+uncounted codes e = ap (λ (l : List ℕ). textOfCodes (28 ∷ l)) e
 
-pub none-left : (codes : List ℕ) → codes ≡ [] → textOf codes ≡ some []
-unfolding textOf
-none-left codes e = ap textOf e
+pub none-left : (codes : List ℕ) → codes ≡ [] → textOfCodes codes ≡ some []
+unfolding textOfCodes
+none-left codes e = ap textOfCodes e

@@ -21,9 +21,9 @@ textReading (spec.decoded t) room =
     cond (leb (length (t .characters)) room) (Text (t .hours) (t .minutes) (t .padding) (length (t .characters))) (Refused 9)
 textReading (spec.refused k) room = Refused k
 
-abbrev pub charactersOf : spec.Decoded → List ℕ
-charactersOf (spec.decoded t) = t .characters
-charactersOf (spec.refused k) = []
+abbrev pub decodedText : spec.Decoded → List ℕ
+decodedText (spec.decoded t) = t .characters
+decodedText (spec.refused k) = []
 
 -- the number and the values for each case, 0 beside a refusal
 abbrev pub readNumber : TextReading → ℕ
@@ -48,11 +48,11 @@ readLength (Refused k) = 0
 
 -- the bytes that each case writes
 abbrev pub readOutput : TextReading → spec.Decoded → List ℕ
-readOutput (Text h m p n) d = charactersOf d
+readOutput (Text h m p n) d = decodedText d
 readOutput (Refused k) d = []
 
 -- what reading what some bytes hold answers and leaves
-pub record Reads (held : spec.Decoded) (out : List ℕ) (answer : TextReading) (left : List ℕ) : Type 0 where
+pub record ReadText (held : spec.Decoded) (out : List ℕ) (answer : TextReading) (left : List ℕ) : Type 0 where
   pub answers : answer ≡ textReading held (length out)
   pub leaves : left ≡ written (readOutput answer held) out
 
@@ -65,6 +65,6 @@ textWriting t room =
     (wrote.Refused 16))
     (wrote.Refused 8)
 
-pub record Writes (t : spec.Text) (out : List ℕ) (answer : Written) (left : List ℕ) : Type 0 where
+pub record WroteText (t : spec.Text) (out : List ℕ) (answer : Written) (left : List ℕ) : Type 0 where
   pub answers : answer ≡ textWriting t (length out)
   pub leaves : left ≡ written (writtenOutput answer (spec.encode t)) out

@@ -6,7 +6,7 @@ use mathlib.Core.List.{List, [], _∷_, _++_, map}
 use lib.ListN.{drop}
 use Rattle.numbers.specs.Lent.{Stored}
 use Rattle.characters.specs.Characters.{codeOf}
-use Rattle.generic_text.specs.Product.{codeBytes, packed}
+use Rattle.generic_text.specs.Product.{codeBytes, closedBytes}
 
 -- the codes from character i on, and the closing one
 abbrev pub codesLeft : List ℕ → ℕ → List ℕ
@@ -17,8 +17,8 @@ abbrev pub threeOf : ℕ → ℕ → ℕ → ℕ → List ℕ
 threeOf a b c d =
     (((a * 64 + b) * 64 + c) * 64 + d) / 65536 % 256 ∷ (((a * 64 + b) * 64 + c) * 64 + d) / 256 % 256 ∷ (((a * 64 + b) * 64 + c) * 64 + d) % 256 ∷ []
 
--- the bytes of the characters before i, a multiple of four, were stored, and what is left to write behind them
+-- some bytes of a text were stored, and those of the codes from character i on are left
 pub record PutFours (out text : List ℕ) (i at : ℕ) (left : List ℕ) : Type 0 where
   pub bytes : List ℕ
   pub stored : Stored out 4 bytes at left
-  pub rest : packed text ≡ bytes ++ codeBytes (codesLeft text i)
+  pub rest : closedBytes text ≡ bytes ++ codeBytes (codesLeft text i)

@@ -28,13 +28,13 @@ beforeCharacter code t = cond (eqb (characterOf code) 0) none (before (character
 
 -- the text of codes: it ends at code 0, as at the end; a tab's next code counts spaces; none for a code that is no character, and
 -- for a tab with no count
-unfoldable pub textOf : List ℕ → Option (List ℕ)
-textOf [] = some []
-textOf (c ∷ []) = cond (eqb c end) (some []) (beforeCharacter c (some []))
-textOf (c ∷ n ∷ cs) =
+unfoldable pub textOfCodes : List ℕ → Option (List ℕ)
+textOfCodes [] = some []
+textOfCodes (c ∷ []) = cond (eqb c end) (some []) (beforeCharacter c (some []))
+textOfCodes (c ∷ n ∷ cs) =
     cond (eqb c end) (some [])
-    (cond (eqb c tab) (before (replicate n space) (textOf cs))
-    (beforeCharacter c (textOf (n ∷ cs))))
+    (cond (eqb c tab) (before (replicate n space) (textOfCodes cs))
+    (beforeCharacter c (textOfCodes (n ∷ cs))))
 
 -- every code is a character's
 abbrev pub AreCharacters : List ℕ → Type 0

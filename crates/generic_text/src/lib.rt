@@ -5,17 +5,26 @@ ghost use mathlib.Core.List.{[], _∷_};
 ghost use Prim.Native.Nat.{_+_, _-_, _%_, _^_, _≤_, _<_, min};
 ghost use lib.ListN.{length, replicate};
 ghost use Rattle.numbers.specs.Lent.{written, Stored};
-ghost use Rattle.characters.specs.Characters.{characters, codeOf, areListed};
-ghost use Rattle.generic_text.specs.Texts.{textOf};
-ghost use Rattle.generic_text.specs.Product.{decode, isGenericText, hoursIn, minutesIn, paddingIn, isFit, textWith, headerOf, codeBytes, packed};
+ghost use Rattle.characters.specs.Characters.{codeCharacters, codeOf, areListed};
+ghost use Rattle.generic_text.specs.Texts.{textOfCodes};
+ghost use Rattle.generic_text.specs.Product.{decode, isGenericText, hoursIn, minutesIn, paddingIn, isFit, textWith, headerOf, codeBytes, closedBytes};
 ghost use Rattle.generic_text.specs.Putting.{codesLeft, threeOf, PutFours};
-ghost use Rattle.generic_text.specs.Answers.{Reads, Writes};
-ghost use Rattle.generic_text.specs.Cursor.{Even, codesFrom, start, NextCode, noRun, NextRun, NextFour, isWhole, noFour, Fits, charactersIn, measured};
+ghost use Rattle.generic_text.specs.Answers.{ReadText, WroteText};
+ghost use Rattle.generic_text.specs.Cursor.{Even, codesFrom, behindHeader, NextCode, noRun, NextRun, NextFour, isWhole, noFour, Fits, orNoBytes, measured};
 use codec::Written;
 
 // The 64 code characters: 0 where a code is no character: the end, 27, the tab (28) and 31.
 const CHARACTERS: [u8; 64] =
     *b"\0ABCDEFGHIJKLMNOPQRSTUVWXYZ\0\0\x1E\n\0 !\"#$%&'()*+,-./0123456789:;<=>?";
+
+// 001 §5.2.2.1.
+const PRODUCT: u16 = 413;
+
+// The code whose next six bits count spaces.
+const TAB: u8 = 28;
+
+// No code has more than six bits.
+const NO_CODE: u8 = 64;
 
 pub enum TextReading {
     // a text of so many bytes, and what its header carries
@@ -25,7 +34,8 @@ pub enum TextReading {
         padding: u8,
         length: usize,
     },
-    // the number: 9, lent output too short; 14, fewer than four header bytes; 15, no text's header; 16, a code that is no character
+    // the number: 9, lent output too short; 14, fewer than four header bytes; 15, no text's header; 16, a code that is no character, or
+    // a tab with no count; by way of an uplink message also those of its frame
     Refused(u8),
 }
 
@@ -36,7 +46,7 @@ struct Cursor {
     width: u32,
 }
 
-// A code, 64 where no whole one is left, and where reading stands behind it.
+// A code, or `NO_CODE` where no whole one is left, and where reading stands behind it.
 struct Next {
     code: u8,
     rest: Cursor,
@@ -64,9 +74,9 @@ enum Measured {
     Fault,
 }
 
-// Reads the text of an information frame's data to the start of `out`.
+// Reads the text of an information frame's data to the behindHeader of `out`.
 pub fn read(apdu: &[u8], out: &mut [u8]) -> TextReading
-    ensures { λ r. ⌜ Reads (decode (now (apdu .entry))) (now (out .entry)) r (now (out .exit)) ⌝ }
+    ensures { λ r. ⌜ ReadText (decode (now (apdu .entry))) (now (out .entry)) r (now (out .exit)) ⌝ }
 {
     if apdu.len() < 4 {
         return TextReading::Refused(14);
@@ -104,14 +114,14 @@ fn is_generic_text(a: u8, b: u8, c: u8) -> bool
     ensures { λ r. ⌜ r ≡ isGenericText a b c ⌝ }
 {
     (a / 32 == 0)
-        & (((a as u16) % 32 * 64 + (b as u16) / 4 == 413)
+        & (((a as u16) % 32 * 64 + (b as u16) / 4 == PRODUCT)
             & ((b / 2 % 2 == 0) & (b % 2 * 2 + c / 128 == 0)))
 }
 
 // Counts the text's bytes, four characters at a time where it can.
 fn measure(table: &[u8; 64], apdu: &[u8], room: usize) -> Measured
-    requires { ⌜ (now table ≡ characters) × (4 ≤ length (now apdu)) × (room < 2 ^ 63) ⌝ }
-    ensures { λ r. ⌜ r ≡ measured (textOf (codesFrom (now (apdu .entry)) start)) room ⌝ }
+    requires { ⌜ (now table ≡ codeCharacters) × (4 ≤ length (now apdu)) × (room < 2 ^ 63) ⌝ }
+    ensures { λ r. ⌜ r ≡ measured (textOfCodes (codesFrom (now (apdu .entry)) behindHeader)) room ⌝ }
 {
     let mut s = Cursor {
         at: 4,
@@ -146,8 +156,8 @@ fn least(a: usize, b: usize) -> usize
 
 // Writes the text, for which there is room.
 fn expand(table: &[u8; 64], apdu: &[u8], out: &mut [u8])
-    requires { ⌜ (now table ≡ characters) × (4 ≤ length (now apdu)) × Fits (textOf (codesFrom (now apdu) start)) (length (now out)) ⌝ }
-    ensures { λ _. ⌜ now (out .exit) ≡ written (charactersIn (textOf (codesFrom (now (apdu .entry)) start))) (now (out .entry)) ⌝ }
+    requires { ⌜ (now table ≡ codeCharacters) × (4 ≤ length (now apdu)) × Fits (textOfCodes (codesFrom (now apdu) behindHeader)) (length (now out)) ⌝ }
+    ensures { λ _. ⌜ now (out .exit) ≡ written (orNoBytes (textOfCodes (codesFrom (now (apdu .entry)) behindHeader))) (now (out .entry)) ⌝ }
 {
     let mut s = Cursor {
         at: 4,
@@ -200,7 +210,7 @@ fn fill(out: &mut [u8], at: usize, byte: u8, times: u8) -> usize
 
 // The characters of the next three bytes' four codes, where no bits are left of the last byte.
 fn next_four(table: &[u8; 64], apdu: &[u8], s: Cursor) -> Four
-    requires { ⌜ (now table ≡ characters) × (4 ≤ length (now apdu)) ⌝ }
+    requires { ⌜ (now table ≡ codeCharacters) × (4 ≤ length (now apdu)) ⌝ }
     ensures { λ r. ⌜ NextFour (now (apdu .entry)) s r ⌝ }
 {
     let at = s.at;
@@ -246,19 +256,19 @@ fn is_whole(four: Four) -> bool
 
 // The next character, or a tab's spaces.
 fn next_run(table: &[u8; 64], apdu: &[u8], s: Cursor) -> Run
-    requires { ⌜ (now table ≡ characters) × Even s ⌝ }
+    requires { ⌜ (now table ≡ codeCharacters) × Even s ⌝ }
     ensures { λ r. ⌜ NextRun (now (apdu .entry)) (codesFrom (now (apdu .entry)) s) r ⌝ }
 {
     let next = next_code(apdu, s);
     let code = next.code;
     let rest = next.rest;
-    if code == 64 {
+    if code == NO_CODE {
         return no_run(0, rest);
     }
     if code == 0 {
         return no_run(0, rest);
     }
-    if code == 28 {
+    if code == TAB {
         return spaces(apdu, rest);
     }
     let byte = table[code as usize];
@@ -272,7 +282,7 @@ fn next_run(table: &[u8; 64], apdu: &[u8], s: Cursor) -> Run
     }
 }
 
-// The spaces of a tab, which its next code counts.
+// A tab's next code counts spaces.
 fn spaces(apdu: &[u8], s: Cursor) -> Run
     requires { ⌜ Even s ⌝ }
     ensures { λ r. ⌜ NextRun (now (apdu .entry)) (28 ∷ codesFrom (now (apdu .entry)) s) r ⌝ }
@@ -280,7 +290,7 @@ fn spaces(apdu: &[u8], s: Cursor) -> Run
     let next = next_code(apdu, s);
     let times = next.code;
     let behind = next.rest;
-    if times == 64 {
+    if times == NO_CODE {
         return no_run(1, behind);
     }
     Run {
@@ -300,7 +310,7 @@ fn no_run(times: u8, rest: Cursor) -> Run
     }
 }
 
-// The next code of six bits, high bit first.
+// The next code of six bits, high bit first. Leftover bits are not read.
 fn next_code(apdu: &[u8], s: Cursor) -> Next
     requires { ⌜ Even s ⌝ }
     ensures { λ r. ⌜ NextCode (now (apdu .entry)) s r ⌝ }
@@ -326,12 +336,15 @@ fn next_code(apdu: &[u8], s: Cursor) -> Next
             },
         };
     }
-    Next { code: 64, rest: s }
+    Next {
+        code: NO_CODE,
+        rest: s,
+    }
 }
 
-// Writes a text with its header to the start of `out`.
+// Writes a text with its header to the behindHeader of `out`.
 pub fn write(hours: u8, minutes: u8, padding: u8, text: &[u8], out: &mut [u8]) -> Written
-    ensures { λ r. ⌜ Writes (textWith hours minutes padding (now (text .entry))) (now (out .entry)) r (now (out .exit)) ⌝ }
+    ensures { λ r. ⌜ WroteText (textWith hours minutes padding (now (text .entry))) (now (out .entry)) r (now (out .exit)) ⌝ }
 {
     if !is_fit(hours, minutes, padding) {
         return Written::Refused(8);
@@ -369,7 +382,7 @@ fn put_header(out: &mut [u8], hours: u8, minutes: u8, padding: u8)
 
 // The characters' codes behind the header, as long as there are four.
 fn put_fours(out: &mut [u8], text: &[u8]) -> usize
-    requires { ⌜ (4 + length (packed (now text)) ≤ length (now out)) × (areListed (now text) ≡ true) ⌝ }
+    requires { ⌜ (4 + length (closedBytes (now text)) ≤ length (now out)) × (areListed (now text) ≡ true) ⌝ }
     ensures { λ r. ⌜ PutFours (now (out .entry)) (now (text .entry)) (length (now (text .entry)) - length (now (text .entry)) % 4) r (now (out .exit)) ⌝ }
 {
     let end = text.len() - text.len() % 4;
@@ -412,7 +425,7 @@ fn put_three(out: &mut [u8], at: usize, a: u8, b: u8, c: u8, d: u8) -> usize
     at + 3
 }
 
-// The last characters, fewer than four, closed by one code 0 and zero bits up to the byte's end.
+// The last characters, fewer than four, closed by one code 0; zero bits fill the last byte.
 fn put_last(out: &mut [u8], at: usize, text: &[u8]) -> usize
     requires { ⌜ (at + length (codeBytes (codesLeft (now text) (length (now text) - length (now text) % 4))) ≤ length (now out)) × (areListed (now text) ≡ true) ⌝ }
     ensures { λ r. ⌜ Stored (now (out .entry)) at (codeBytes (codesLeft (now (text .entry)) (length (now (text .entry)) - length (now (text .entry)) % 4))) r (now (out .exit)) ⌝ }

@@ -20,8 +20,8 @@ use Rattle.uplink.specs.Walk.{framesBefore, walk, payloadFrames}
 use Rattle.uplink.specs.Answers.{frameList, dataIn}
 use Rattle.uplink.specs.Contents.{contentOf, contents}
 use Rattle.uplink.specs.Samples.{bytesOf, rows, textual}
-use Rattle.characters.specs.Characters.{characterOf, placeOf, codeOf}
-use Rattle.generic_text.specs.Texts.{textOf}
+use Rattle.characters.specs.Characters.{characterOf, placeIn, codeOf}
+use Rattle.generic_text.specs.Texts.{textOfCodes}
 use Rattle.generic_text.specs.Product.{decode, headerOf, codeBytes, encode}
 use Rattle.known_answers.specs.Row.{Holds, textsIn, done, _and_}
 use Rattle.known_answers.specs.Values.{Starred, Examples}
@@ -31,5 +31,5 @@ unfolding Holds _⊕_ bit signedIn bitsOf bitsIn step fcs escape stuff lowFirst 
 starred-hold = refl and refl and refl and refl and refl and refl and refl and refl and refl and refl and refl and refl and refl and refl and refl and refl and refl and refl and refl and refl and refl and refl and refl and refl and refl and refl and refl and refl and refl and done
 
 pub examples-hold : Examples
-unfolding Holds _⊕_ bit signedIn bitsOf bitsIn step fcs escape stuff lowFirst enclosed frameOf misfit reading heartbeatIn trackFrom positionOf altitudeOf speedOf climbOf reportIn goodPosition goodReport kindIn readMessage framesBefore walk payloadFrames dataIn contentOf contents bytesOf rows textual gather numbersIn characterOf placeOf codeOf textOf decode headerOf codeBytes encode textsIn
+unfolding Holds _⊕_ bit signedIn bitsOf bitsIn step fcs escape stuff lowFirst enclosed frameOf misfit reading heartbeatIn trackFrom positionOf altitudeOf speedOf climbOf reportIn goodPosition goodReport kindIn readMessage framesBefore walk payloadFrames dataIn contentOf contents bytesOf rows textual gather numbersIn characterOf placeIn codeOf textOfCodes decode headerOf codeBytes encode textsIn
 examples-hold = refl and refl and refl and refl and refl and refl and refl and done

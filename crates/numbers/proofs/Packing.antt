@@ -12,7 +12,7 @@ use lib.ListN.{length, length-append}
 use lib.Seq.{append-snoc}
 use Rattle.numbers.specs.Bits.{bit, AreBits}
 use Rattle.numbers.proofs.Xor.{bit-lt}
-use Rattle.numbers.specs.Packing.{bitsOf, bitsIn, gather, numbersIn, digits}
+use Rattle.numbers.specs.Packing.{bitsOf, bitsIn, gather, numbersIn}
 
 bit-high : (i j n : ℕ) → bit (i + j) n ≡ bit i (n / 2 ^ j)
 unfolding bit
@@ -21,7 +21,7 @@ bit-high i j n =
     ap (λ (m : ℕ). n / m % 2) e ∙ ap (λ (m : ℕ). m % 2) (sym (div-div-eq-div-mul n (2 ^ j) (2 ^ i)))
 
 -- the high bits are those of the quotient
-pub bits-split : (i j n : ℕ) → bitsOf (i + j) n ≡ bitsOf i (n / 2 ^ j) ++ bitsOf j n
+bits-split : (i j n : ℕ) → bitsOf (i + j) n ≡ bitsOf i (n / 2 ^ j) ++ bitsOf j n
 unfolding bitsOf
 bits-split zero j n = ap (λ (k : ℕ). bitsOf k n) (zero-add j)
 bits-split (suc i) j n = rw (suc-add i j) (ap₂ (λ (b : ℕ) (l : List ℕ). b ∷ l) (bit-high i j n) (bits-split i j n))
@@ -35,7 +35,7 @@ bit-low k d x y =
     ∙ mul-add-mod-self-right (x * 2 ^ d) 2 (y / 2 ^ k)
 
 -- the low bits of a sum do not see the high part
-pub bits-low : (k j x y : ℕ) → k ≤ j → bitsOf k (x * 2 ^ j + y) ≡ bitsOf k y
+bits-low : (k j x y : ℕ) → k ≤ j → bitsOf k (x * 2 ^ j + y) ≡ bitsOf k y
 unfolding bitsOf
 bits-low zero j x y h = refl
 bits-low (suc k) j x y h =
@@ -45,7 +45,7 @@ bits-low (suc k) j x y h =
     (bits-low k j x y (omega arith))
 
 -- bits behind others are those of one number
-pub bits-join : (i j x y : ℕ) → y < 2 ^ j → bitsOf i x ++ bitsOf j y ≡ bitsOf (i + j) (x * 2 ^ j + y)
+bits-join : (i j x y : ℕ) → y < 2 ^ j → bitsOf i x ++ bitsOf j y ≡ bitsOf (i + j) (x * 2 ^ j + y)
 bits-join i j x y h =
     sym (bits-split i j (x * 2 ^ j + y) ∙ ap₂ (λ (n : ℕ) (l : List ℕ). bitsOf i n ++ l) (digits-div x h) (bits-low j j x y (omega arith)))
 
@@ -169,17 +169,21 @@ bits-more w i x (n ∷ ns) rest h =
     ∙ bits-more w (i + w) y ns rest (h .1)
     ∙ ap (λ (k : ℕ). bitsOf k (foldl (λ p n. p * 2 ^ w + n) y ns) ++ rest) size
 
--- and in groups of any width they are its digits
-pub digits-first : (k n m : ℕ) (rest : List ℕ) → numbersIn (suc k) (bitsOf (n * suc k) m ++ rest) ≡ digits (suc k) n m ++ numbersIn (suc k) rest
+-- the last n numbers of `width` bits each that a number's bits make
+abbrev pub groups : ℕ → ℕ → ℕ → List ℕ
+groups width zero m = []
+groups width (suc n) m = m / 2 ^ (n * width) % 2 ^ width ∷ groups width n m
+
+pub groups-first : (k n m : ℕ) (rest : List ℕ) → numbersIn (suc k) (bitsOf (n * suc k) m ++ rest) ≡ groups (suc k) n m ++ numbersIn (suc k) rest
 unfolding bitsOf
-digits-first k zero m rest = let none : 0 * suc k ≡ 0 = omega arith in ap (λ (j : ℕ). numbersIn (suc k) (bitsOf j m ++ rest)) none
-digits-first k (suc n) m rest =
+groups-first k zero m rest = let none : 0 * suc k ≡ 0 = omega arith in ap (λ (j : ℕ). numbersIn (suc k) (bitsOf j m ++ rest)) none
+groups-first k (suc n) m rest =
     let size : suc n * suc k ≡ suc k + n * suc k = omega arith in
     let more = bitsOf (n * suc k) m in
     ap (λ (j : ℕ). numbersIn (suc k) (bitsOf j m ++ rest)) size
     ∙ ap (numbersIn (suc k)) (ap (λ (l : List ℕ). l ++ rest) (bits-split (suc k) (n * suc k) m) ∙ append-assoc (bitsOf (suc k) (m / 2 ^ (n * suc k))) more rest)
     ∙ number-first k (m / 2 ^ (n * suc k)) (more ++ rest)
-    ∙ ap (λ (l : List ℕ). m / 2 ^ (n * suc k) % 2 ^ suc k ∷ l) (digits-first k n m rest)
+    ∙ ap (λ (l : List ℕ). m / 2 ^ (n * suc k) % 2 ^ suc k ∷ l) (groups-first k n m rest)
 
 -- w bits of x and then j of y, in a group of their own width and the k bits of y that are left
 pub next-number : (i j k w x y : ℕ) (rest : List ℕ) → w + j ≡ suc i + k → k ≤ j → y < 2 ^ j

@@ -1,6 +1,6 @@
--- Numbers of some bits each, one directly behind the other, the high bit first (001 §5.2.2.2; RULES 'Weather texts').
+-- Numbers of some bits each, one directly behind the other, the high bit first (RULES 'Check sequence', 'Weather texts').
 -- Assumes nothing.
-use Prim.Native.Nat.{ℕ, zero, suc, _+_, _*_, _/_, _%_, _^_}
+use Prim.Native.Nat.{ℕ, zero, suc, _+_, _*_}
 use mathlib.Core.List.{List, [], _∷_, _++_}
 use Rattle.numbers.specs.Bits.{bit}
 
@@ -14,8 +14,8 @@ unfoldable pub bitsIn : ℕ → List ℕ → List ℕ
 bitsIn width [] = []
 bitsIn width (n ∷ ns) = bitsOf width n ++ bitsIn width ns
 
--- the numbers of `width` bits each in a row of bits: the first lacks `missing` bits behind those that make n.
--- Bits left over behind the last whole number are not read
+-- the numbers of `width` bits each in a row of bits, of which n was made already and lacks `missing` bits. Bits that are left behind
+-- the last whole number are not read; a number that lacks none, so of width 0, there is not
 unfoldable pub gather : ℕ → ℕ → ℕ → List ℕ → List ℕ
 gather width n missing [] = []
 gather width n zero (b ∷ bs) = []
@@ -24,8 +24,3 @@ gather width n (suc (suc k)) (b ∷ bs) = gather width (n * 2 + b) (suc k) bs
 
 unfoldable pub numbersIn : ℕ → List ℕ → List ℕ
 numbersIn width bs = gather width 0 width bs
-
--- the last n numbers of `width` bits each that a number's bits make
-abbrev pub digits : ℕ → ℕ → ℕ → List ℕ
-digits width zero m = []
-digits width (suc n) m = m / 2 ^ (n * width) % 2 ^ width ∷ digits width n m

@@ -19,7 +19,7 @@ use Rattle.uplink.proofs.Laws as uplink
 use Rattle.uplink_message.specs.Frames.{messageFrames}
 use Rattle.generic_text.specs.declared.TextReading.the-variants as read
 use Rattle.generic_text.specs.Product.{Decoded, decode}
-use Rattle.generic_text.specs.Answers.{textReading, Reads}
+use Rattle.generic_text.specs.Answers.{textReading, ReadText}
 use Rattle.generic_text.proofs.Laws.{written-decoded}
 use Rattle.uplink_text.specs.Texts.{textIn, messageText}
 use Rattle.uplink_text.specs.Claims.{PartRead, AddedRead}
@@ -58,8 +58,8 @@ unfolding messageText dataIn
 part-read m part out left n at place f answer e d r =
     let holds : part ≡ dataIn (payloadOf m) f = d .holds ∙ ap (λ (x : Found). stretch (dataStart x) (foundFrame x .length) (payloadOf m)) e in
     let text : decode part ≡ messageText m n = ap decode holds ∙ sym (ap (textIn (payloadOf m)) e) in
-    (d .stands ∙ ap (λ (x : Found). behind (dataStart x) (behind (payloadStart m) at)) e, subst (λ (x : Decoded). Reads x out answer left) text r)
+    (d .stands ∙ ap (λ (x : Found). behind (dataStart x) (behind (payloadStart m) at)) e, subst (λ (x : Decoded). ReadText x out answer left) text r)
 
-pub refused-frame : (m out : List ℕ) (n k : ℕ) → nthFrame (messageFrames m) n ≡ nth.Refused k → Reads (messageText m n) out (read.Refused k) out
+pub refused-frame : (m out : List ℕ) (n k : ℕ) → nthFrame (messageFrames m) n ≡ nth.Refused k → ReadText (messageText m n) out (read.Refused k) out
 unfolding messageText textReading written
 refused-frame m out n k e = record { answers = sym (ap (λ (x : Found). textReading (textIn (payloadOf m) x) (length out)) e); leaves = refl }

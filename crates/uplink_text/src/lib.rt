@@ -1,13 +1,13 @@
 // The weather texts of an uplink message: an information frame's data are passed as a part to the reading of a text
 // (RULES 'Uplink payloads', 'Weather texts').
-ghost use Rattle.generic_text.specs.Answers.{Reads};
+ghost use Rattle.generic_text.specs.Answers.{ReadText};
 ghost use Rattle.uplink_text.specs.Texts.{messageText};
 use generic_text::TextReading;
 use uplink::Found;
 
-// Reads the text of frame n, numbered from 0, to the start of `out`. The frame's type is not looked at: `uplink_message::nth` has it.
+// Reads the text of frame n, numbered from 0, to the behindHeader of `out`. The frame's type is not looked at: `uplink_message::nth` has it.
 pub fn read(message: &[u8], n: usize, out: &mut [u8]) -> TextReading
-    ensures { λ r. ⌜ Reads (messageText (now (message .entry)) n) (now (out .entry)) r (now (out .exit)) ⌝ }
+    ensures { λ r. ⌜ ReadText (messageText (now (message .entry)) n) (now (out .entry)) r (now (out .exit)) ⌝ }
 {
     match uplink_message::nth(message, n) {
         Found::Frame(_) => generic_text::read(uplink_message::data(message, n), out),

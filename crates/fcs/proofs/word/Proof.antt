@@ -5,7 +5,7 @@ use native.Mathlib.Omega.{arith}
 use Prim.Native.Nat.{ℕ, zero, suc, _%_, _≤_}
 use Rattle.numbers.specs.Bits.{_⊕_, bit}
 use Rattle.numbers.specs.Packing.{bitsOf, bitsIn}
-use Rattle.fcs.specs.Fcs.{step, bits, fcs}
+use Rattle.fcs.specs.Fcs.{step, fcs}
 use Rattle.fcs.specs.Words.{wordOf}
 use Rattle.fcs.proofs.word.Statement.{statement}
 use Rattle.fcs.proofs.word.Tie as tie

@@ -4,17 +4,17 @@ use mathlib.Core.Path.{_≡_, refl, sym, _∙_}
 use lib.ListN.{getD}
 use borrow.Author.Tests.{not-true, not-false}
 use borrow.Author.Needs.{needs}
-use Rattle.generic_text.specs.Texts.{textOf}
-use Rattle.generic_text.specs.Product.{headed, decode}
-use Rattle.generic_text.specs.Cursor.{codesFrom, start}
+use Rattle.generic_text.specs.Texts.{textOfCodes}
+use Rattle.generic_text.specs.Product.{withHeader, decode}
+use Rattle.generic_text.specs.Cursor.{codesFrom, behindHeader}
 use Rattle.generic_text.proofs.Answering.{read-short, read-other, walked, read-fault, read-long, read-done, measured-fits}
 use Rattle.generic_text.proofs.read.Statement.{statement}
 use Rattle.generic_text.proofs.read.Tie as tie
 
 -- behind a text's header
 held : (c : tie.Else2) → decode (c .before .before .before .before .before .before .before .before .args .apdu .now)
-    ≡ headed (getD (c .before .before .before .before .before .before .before .before .args .apdu .now) 2 0) (getD (c .before .before .before .before .before .before .before .before .args .apdu .now) 3 0)
-    (textOf (codesFrom (c .before .before .before .before .before .before .before .before .args .apdu .now) start))
+    ≡ withHeader (getD (c .before .before .before .before .before .before .before .before .args .apdu .now) 2 0) (getD (c .before .before .before .before .before .before .before .before .args .apdu .now) 3 0)
+    (textOfCodes (codesFrom (c .before .before .before .before .before .before .before .before .args .apdu .now) behindHeader))
 held c = walked _ (c .before .before .before .before .before .if1 .left) (sym (c .before .is-generic-text .ensures) ∙ not-false _ (c .if2 .left))
 
 returns : tie.Need-returns
@@ -44,13 +44,13 @@ enum-known-n c = search needs
 returns-3 : tie.Need-returns-3
 returns-3 c =
     let a = c .before .before .before .before .before .before .before .before .before .before .before .before .before .before .args .apdu .now in
-    let t = textOf (codesFrom a start) in
+    let t = textOfCodes (codesFrom a behindHeader) in
     read-long a _ _ _ t _ (held (c .before .before .before .before .before .before)) (sym (c .before .before .n .given .1) ∙ c .before .before .before .before .measure .ensures) (c .if3 .taken)
 
 expand-requires : tie.Need-expand-requires
 expand-requires c κs =
     let a = c .before .before .before .before .before .before .before .before .before .before .before .before .before .before .before .before .args .apdu .now in
-    let t = textOf (codesFrom a start) in
+    let t = textOfCodes (codesFrom a behindHeader) in
     (refl, c .before .before .before .before .before .before .before .before .before .before .before .before .before .if1 .left, measured-fits t _ _ (sym (c .before .before .before .before .n .given .1) ∙ c .before .before .before .before .before .before .measure .ensures) (c .before .before .if3 .left))
 
 shared-slice-read-accepted : tie.Need-shared-slice-read-accepted
@@ -71,13 +71,13 @@ same-length c = search needs
 returns-4 : tie.Need-returns-4
 returns-4 c =
     let a = c .before .before .before .before .before .before .before .before .before .before .before .before .before .before .before .before .before .before .before .before .before .before .args .apdu .now in
-    let t = textOf (codesFrom a start) in
+    let t = textOfCodes (codesFrom a behindHeader) in
     rw (c .accepted .ensures) (read-done a _ _ _ t _ _ (held (c .before .before .before .before .before .before .before .before .before .before .before .before .before .before)) (sym (c .before .before .before .before .before .before .before .before .before .before .n .given .1) ∙ c .before .before .before .before .before .before .before .before .before .before .before .before .measure .ensures) (c .before .before .before .before .before .before .before .before .if3 .left) (c .before .before .before .before .before .expand .ensures))
 
 returns-5 : tie.Need-returns-5
 returns-5 c =
     let a = c .before .before .before .before .before .before .before .before .before .before .before .before .args .apdu .now in
-    let t = textOf (codesFrom a start) in
+    let t = textOfCodes (codesFrom a behindHeader) in
     read-fault a _ _ _ t (held (c .before .before .before .before)) (sym (c .enum-told .given .1) ∙ c .before .before .measure .ensures)
 
 pub read-spec : {M : Type 1} → statement M
