@@ -5,10 +5,12 @@
 // added, and a refused message leaves zeros.
 // Of P, M and L it prints the number and, where it is 0, the list's count and end, and of each frame type,
 // reserved bits, length and the first two bytes of the data, in which the product id is (001 §5); then what
-// the number behind the last is answered. Of A it prints the number and the check sequence of the payload
+// the number behind the last is answered. Of M also what reading each frame's text answers, the number and,
+// where it is 0, hours, minutes, padding, length and the check sequence of the room. Of A it prints the number and the check sequence of the payload
 // that is left. The records and the text that is stored beside this program come from rust/reference.
 ghost use Prim.Native.Nat.{_+_, _≤_, _<_};
 ghost use lib.ListN.{length};
+use generic_text::TextReading;
 use libc::STDERR_FILENO;
 use libc::STDIN_FILENO;
 use libc::STDOUT_FILENO;
@@ -66,20 +68,43 @@ fn print_counts(count: usize, end: usize) {
     print_number(end);
 }
 
-// The same of a message, by its own functions.
+fn print_text(message: &[u8], n: usize) {
+    let mut out = [0u8; 1024];
+    match uplink_text::read(message, n, &mut out) {
+        TextReading::Text {
+            hours,
+            minutes,
+            padding,
+            length,
+        } => {
+            print_number(0);
+            print_number(hours as usize);
+            print_number(minutes as usize);
+            print_number(padding as usize);
+            print_number(length);
+            print(b" ");
+            io::print_hex(STDOUT_FILENO, fcs::check_sequence(&out) as u64, 4);
+        }
+        TextReading::Refused(k) => print_number(k as usize),
+    }
+}
+
+fn print_message_frame(message: &[u8], n: usize) {
+    print_frame(
+        uplink_message::nth(message, n),
+        uplink_message::data(message, n),
+    );
+    print_text(message, n);
+}
+
+// The same of a message, by its own functions, and the texts.
 fn print_message_frames(message: &[u8], count: usize) {
     let mut n = 0;
     while n < count {
-        print_frame(
-            uplink_message::nth(message, n),
-            uplink_message::data(message, n),
-        );
+        print_message_frame(message, n);
         n += 1;
     }
-    print_frame(
-        uplink_message::nth(message, count),
-        uplink_message::data(message, count),
-    );
+    print_message_frame(message, count);
 }
 
 fn print_message_list(message: &[u8]) {

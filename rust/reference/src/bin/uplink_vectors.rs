@@ -8,7 +8,10 @@
 //! `uplink_vectors output` writes one line for each record. For P, M and L: the
 //! number and, if it is 0, count and end of the list, then type, reserved bits,
 //! length and the first two bytes in hex of each frame, then the answer to the
-//! number behind the last. For A: the number, and the payload's check sequence.
+//! number behind the last. For M also what reading the text of each frame answers,
+//! and behind the last: the number and, if it is 0, hours, minutes, padding, length
+//! and the check sequence of the room, 1,024 bytes that were zero. For A: the
+//! number, and the payload's check sequence.
 
 use std::io::{self, Write};
 use std::process::ExitCode;
@@ -17,6 +20,7 @@ use reference::fcs::check_sequence;
 use reference::messages::{read, write, Message, Uplink, NOT_LISTED, PAYLOAD_LENGTH, UPLINK_ID};
 use reference::payloads::{damaged, samples_of_001, valid, whole};
 use reference::samples;
+use reference::text::{self, Text};
 use reference::uplink::{
     add, end, list, nth, DATA_LENGTH, FRAME_DATA_MAX, FRAME_TYPE_MAX, VALID, VALID_AT,
 };
@@ -28,6 +32,8 @@ const MADE_UP: usize = 120;
 const MESSAGES: usize = 12;
 /// What the program that reads the input takes at most, in bytes.
 const INPUT_MAX: usize = 200_000;
+/// What it lends for a text.
+const TEXT_ROOM: usize = 1_024;
 
 enum Record {
     Payload(Vec<u8>),
@@ -64,10 +70,10 @@ fn write_output(out: &mut dyn Write) -> io::Result<()> {
     let mut last = vec![0; PAYLOAD_LENGTH];
     for record in records() {
         match record {
-            Payload(payload) => last = list_and_keep(out, payload)?,
+            Payload(payload) => last = list_and_keep(out, payload, false)?,
             Record::Message(message) => {
                 last = match read_uplink(&message) {
-                    Ok(payload) => list_and_keep(out, payload)?,
+                    Ok(payload) => list_and_keep(out, payload, true)?,
                     Err(number) => {
                         writeln!(out, "list {number}")?;
                         vec![0; PAYLOAD_LENGTH]
@@ -78,7 +84,7 @@ fn write_output(out: &mut dyn Write) -> io::Result<()> {
                 let number = add(&mut last, frame_type, &data).err().unwrap_or(0);
                 writeln!(out, "add {number} {:04x}", check_sequence(&last))?;
             }
-            List => write_list(out, &last)?,
+            List => write_list(out, &last, false)?,
         }
     }
     Ok(())
@@ -97,13 +103,13 @@ fn read_uplink(message: &[u8]) -> Result<Vec<u8>, u8> {
 }
 
 /// What frames are added to: the first 432 bytes, zeros behind fewer.
-fn list_and_keep(out: &mut dyn Write, mut payload: Vec<u8>) -> io::Result<Vec<u8>> {
-    write_list(out, &payload)?;
+fn list_and_keep(out: &mut dyn Write, mut payload: Vec<u8>, texts: bool) -> io::Result<Vec<u8>> {
+    write_list(out, &payload, texts)?;
     payload.resize(PAYLOAD_LENGTH, 0);
     Ok(payload)
 }
 
-fn write_list(out: &mut dyn Write, payload: &[u8]) -> io::Result<()> {
+fn write_list(out: &mut dyn Write, payload: &[u8], texts: bool) -> io::Result<()> {
     let frames = match list(payload) {
         Ok(frames) => frames,
         Err(number) => return writeln!(out, "list {number}"),
@@ -119,9 +125,35 @@ fn write_list(out: &mut dyn Write, payload: &[u8]) -> io::Result<()> {
             data.len()
         )?;
         write_hex(out, &data[..data.len().min(2)])?;
+        if texts {
+            write_text(out, data)?;
+        }
     }
     let behind = nth(payload, frames.len()).expect_err("no frame behind the last");
-    writeln!(out, " {behind}")
+    write!(out, " {behind}")?;
+    if texts {
+        write!(out, " {behind}")?;
+    }
+    writeln!(out)
+}
+
+fn write_text(out: &mut dyn Write, data: &[u8]) -> io::Result<()> {
+    let mut room = [0; TEXT_ROOM];
+    match text::read(data, &mut room) {
+        Ok(Text {
+            hours,
+            minutes,
+            padding,
+            length,
+        }) => {
+            let sequence = check_sequence(&room);
+            write!(
+                out,
+                " 0 {hours} {minutes} {padding} {length} {sequence:04x}"
+            )
+        }
+        Err(number) => write!(out, " {number}"),
+    }
 }
 
 fn records() -> Vec<Record> {
@@ -205,7 +237,8 @@ fn add_made_up(records: &mut Vec<Record>, random: &mut Xorshift) {
     }
 }
 
-/// Uplinks, with times of reception also out of range, and other messages.
+/// Uplinks, with times of reception also out of range, other messages, and the
+/// samples of 001 in messages.
 fn add_messages(records: &mut Vec<Record>, random: &mut Xorshift) {
     for make in [whole, damaged] {
         for _ in 0..MESSAGES {
@@ -224,4 +257,12 @@ fn add_messages(records: &mut Vec<Record>, random: &mut Xorshift) {
         records.push(Record::Message(samples::damaged(random, UPLINK_ID)));
     }
     records.extend([vec![], HEARTBEAT.to_vec(), vec![UPLINK_ID; 4]].map(Record::Message));
+    for payload in samples_of_001() {
+        let uplink = Uplink {
+            reception: None,
+            payload,
+        };
+        let message = write(&Message::Uplink(uplink)).expect("a whole uplink");
+        records.push(Record::Message(message));
+    }
 }
