@@ -50,7 +50,7 @@ static void print_text(const uint8_t *data, size_t length)
     for (size_t start = 0, end = 0; end <= read.length; end++) {
         if (end < read.length && text[end] != '\n' && text[end] != 0x1E)
             continue;
-        if (start < end) /* a new line and the separator of two records may stand side by side */
+        if (start < end || (end < read.length && text[end] == '\n')) /* behind a record's last new line there is no line */
             printf("      %.*s\n", (int)(end - start), (const char *)text + start);
         start = end + 1;
     }

@@ -349,6 +349,35 @@ static void check_long(void)
     CASE(writes(16, 25, 0, text, 4001, data, 4 + 3002));
 }
 
+/* ---- in a payload: 556 characters fill a frame, and one more is too many */
+
+static void check_full_frame(void)
+{
+    static const uint8_t empty[GDL90_PAYLOAD] = {0};
+    uint8_t payload[GDL90_PAYLOAD] = {0}, text[557], data[423];
+    struct gdl90_write_answer written;
+    struct gdl90_nth_answer frame;
+    size_t i;
+
+    for (i = 0; i < sizeof text; i++)
+        text[i] = (uint8_t)(' ' + i % 32);
+    written = gdl90_write_text(16, 25, 0, text, 557, data, sizeof data);
+    CHECK_U8(written.number, 0);
+    CHECK_SIZE(written.length, 423);
+    CHECK(gdl90_add(payload, sizeof payload, 0, data, written.length), 8);
+    CHECK_BYTES(payload, empty, sizeof payload);
+
+    written = gdl90_write_text(16, 25, 0, text, 556, data, sizeof data);
+    CHECK_U8(written.number, 0);
+    CHECK_SIZE(written.length, 422);
+    CHECK(gdl90_add(payload, sizeof payload, 0, data, written.length), 0);
+    frame = gdl90_nth(payload, sizeof payload, 0);
+    CHECK_U8(frame.number, 0);
+    CHECK_U8(frame.kind, 0);
+    CHECK_SIZE(frame.length, 422);
+    CASE(reads(payload + frame.start, frame.length, answer(0, 16, 25, 0, 556), text));
+}
+
 void check_texts(void)
 {
     check_samples();
@@ -358,4 +387,5 @@ void check_texts(void)
     check_tabs();
     check_characters();
     check_long();
+    check_full_frame();
 }

@@ -1,10 +1,8 @@
 //! The proved library held against the reference: what both sides' values are to
-//! each other, texts to hold them against, the collecting that is there only to be
-//! measured, and clocks.
+//! each other, the collecting that is there only to be measured, and clocks.
 
 pub mod clock;
 pub mod messages;
-pub mod texts;
 
 extern "C" {
     fn by_value_answers(bytes: *const u8, bytes_len: usize) -> usize;

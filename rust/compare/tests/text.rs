@@ -2,12 +2,12 @@
 
 use std::hint::black_box;
 
-use compare::texts::{any_codes, any_text, code_of, damaged, packed, whole, HEADER};
 use gdl90::raw::{self, TextAnswer, WriteAnswer};
 use gdl90::{add_information_frame, information_frames, Error, Text, LONGEST_TEXT};
 use reference::messages::{OUTPUT_TOO_SHORT, OUT_OF_RANGE, PAYLOAD_LENGTH};
 use reference::payloads::samples_of_001;
 use reference::text::{self, END, NOT_TEXT, NO_CHARACTER, NO_HEADER, TAB};
+use reference::texts::{any_codes, any_text, code_of, damaged, packed, whole, HEADER};
 use reference::uplink::{list, FRAME_DATA_MAX};
 use reference::xorshift::Xorshift;
 
@@ -168,8 +168,9 @@ fn frames_have_texts() {
     for payload in samples_of_001() {
         for frame in information_frames(&payload).expect("a whole payload") {
             let text = frame.text().expect("a frame of type 0");
-            assert_eq!(text, Text::read(frame.data));
             assert_eq!(assert_reads_agree(frame.data), number(&text));
+            let (_, characters) = assert_read_agrees(frame.data, LONGEST_TEXT);
+            assert_eq!(text.as_ref().map_or(&[][..], Text::as_bytes), characters);
             numbers.add(number(&text));
         }
     }
@@ -235,9 +236,6 @@ fn every_header_agrees() {
         numbers.add(read(header >> 15 << 15 | carried));
     }
     numbers.assert_is(&[(0, 1 << 15)]);
-    for bit in 15..32 {
-        assert_eq!(read(header ^ 1 << bit), NOT_TEXT, "bit {bit}");
-    }
 }
 
 /// With each count, in front of a character, of another tab and of nothing.
@@ -344,14 +342,17 @@ fn damaged_data_agree() {
     numbers.assert_has(&[0, NO_HEADER, NOT_TEXT, NO_CHARACTER], 500);
 }
 
+/// With a text's header in front of every second.
 #[test]
 fn random_bytes_agree() {
     let mut random = Xorshift::new(64);
     let mut numbers = Tally::default();
     for round in 0..ROUNDS {
-        numbers.add(assert_reads_agree(&random.message(round % 431)));
+        let header = [&[][..], &HEADER][round % 2];
+        let data = [header, &random.message(round % 431)].concat();
+        numbers.add(assert_reads_agree(&data));
     }
-    numbers.assert_has(&[NO_HEADER, NOT_TEXT], 100);
+    numbers.assert_has(&[0, NO_HEADER, NOT_TEXT, NO_CHARACTER], 50);
 }
 
 /// 278 tabs of 63 spaces and a character are in 422 bytes.

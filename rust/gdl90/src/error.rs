@@ -52,8 +52,8 @@ pub enum Error {
     /// A header that is not a weather text's: another product, a flag, segmented,
     /// or another time option.
     NotText = 15,
-    /// A code that is no character of a text, a tab with no count behind it, or a
-    /// character to be written that has no code.
+    /// A code that is no character of a text, a tab with no count behind it, as in
+    /// data that were cut off, or a character to be written that has no code.
     NoCharacter = 16,
 }
 
@@ -97,10 +97,10 @@ pub(crate) fn accepted<T>(number: u8, value: T) -> Result<T, Error> {
     }
 }
 
-/// Only an archive of another version has numbers that this crate lacks.
+/// Only an archive of another version answers what this crate does not know.
 #[cold]
-fn unknown(number: u8) -> ! {
-    panic!("libgdl90.a answered {number}: it and the crate gdl90 are of different versions")
+pub(crate) fn unknown(answer: impl fmt::Display) -> ! {
+    panic!("libgdl90.a answered {answer}: it and the crate gdl90 are of different versions")
 }
 
 impl fmt::Display for Error {
@@ -121,7 +121,9 @@ impl fmt::Display for Error {
             Self::NoSuchFrame => "no information frame has that number",
             Self::NoTextHeader => "the data are shorter than a text's header",
             Self::NotText => "the data are not a weather text",
-            Self::NoCharacter => "a code is no character of a text, or a character has no code",
+            Self::NoCharacter => {
+                "a code is no character of a text, a tab has no count, or a character has no code"
+            }
         })
     }
 }

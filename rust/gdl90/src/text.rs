@@ -4,10 +4,11 @@ use std::borrow::Cow;
 use std::fmt;
 use std::str::SplitTerminator;
 
+use crate::error::unknown;
 use crate::{raw, Error};
 
-/// Room for the text of every information frame: of 422 bytes of data, all tabs
-/// of 63 spaces.
+/// Room for the text of every information frame: of 422 bytes of data, 278 tabs
+/// of 63 spaces and one character more.
 pub const LONGEST_TEXT: usize = longest_text(422);
 
 /// Room that most texts fit, kept without the heap.
@@ -21,7 +22,7 @@ const SEPARATOR: char = '\x1E';
 const fn longest_text(data_length: usize) -> usize {
     let packed = data_length.saturating_sub(4);
     let codes = packed + packed / 3;
-    codes / 2 * 63 + codes % 2
+    (codes / 2).saturating_mul(63).saturating_add(codes % 2)
 }
 
 /// A weather text, such as a forecast or a report, with what its header carries.
@@ -58,6 +59,10 @@ pub struct Text<'a> {
 
 impl Text<'static> {
     /// Reads the text of an information frame's data. A tab becomes its spaces.
+    ///
+    /// Most texts take nothing on the heap but themselves. One of more than 1,024
+    /// characters is first read to room for the longest of so many data: 63 bytes
+    /// for every 12 bits, so at most 42 for each byte.
     ///
     /// # Errors
     ///
@@ -98,8 +103,9 @@ impl<'a> Text<'a> {
     pub fn read_into(data: &[u8], out: &'a mut [u8]) -> Result<Self, Error> {
         let read = raw::read_text(data, out);
         let characters = &out[..read.result()?];
-        // All are ASCII, so this is never refused.
-        let characters = std::str::from_utf8(characters).map_err(|_| Error::NoCharacter)?;
+        // All are ASCII.
+        let characters =
+            std::str::from_utf8(characters).unwrap_or_else(|_| unknown("a text that is not UTF-8"));
         Ok(Self {
             hours: read.hours,
             minutes: read.minutes,
@@ -204,7 +210,7 @@ impl<'a> Text<'a> {
     }
 }
 
-/// All but the padding; new lines, separators and quotes as escapes.
+/// All but the padding; new lines, separators and double quotes as escapes.
 impl fmt::Display for Text<'_> {
     fn fmt(&self, f: &mut fmt::Formatter<'_>) -> fmt::Result {
         let (hours, minutes, characters) = (self.hours, self.minutes, self.as_str());

@@ -11,6 +11,7 @@ pub mod payloads;
 pub mod recording;
 pub mod samples;
 pub mod text;
+pub mod texts;
 pub mod uplink;
 pub mod vectors;
 pub mod xorshift;

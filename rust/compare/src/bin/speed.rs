@@ -10,7 +10,6 @@
 use std::hint::black_box;
 
 use compare::clock;
-use compare::texts::{any_codes, forecast, packed, CODES_MAX};
 use gdl90::{raw, Message, Text};
 use reference::collecting::Answer;
 use reference::framing::{Framed, MESSAGE_MAX};
@@ -22,6 +21,7 @@ use reference::payloads;
 use reference::recording::{speed_recording, SHAPES};
 use reference::samples::whole;
 use reference::text;
+use reference::texts::{any_codes, forecast, packed, CODES_MAX};
 use reference::uplink::Frame;
 use reference::xorshift::Xorshift;
 

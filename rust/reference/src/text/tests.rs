@@ -1,21 +1,11 @@
 use super::*;
 use crate::payloads::samples_of_001;
+use crate::texts::{any_text, code_of, packed, HEADER};
 use crate::uplink::list;
 use crate::xorshift::Xorshift;
 
-/// The header of 001 §5.2.4.
-const HEADER: [u8; 4] = [0x06, 0x74, 0x41, 0x90];
 /// Stands in a room before it is lent.
 const OLD: u8 = 0xAA;
-
-/// These codes behind the header, and zero bits up to the byte's end.
-fn packed(codes: &[u8]) -> Vec<u8> {
-    let bits: String = codes.iter().map(|code| format!("{code:06b}")).collect();
-    let bits = bits + &"0".repeat(codes.len() % 4 * 2);
-    let byte = |at| u8::from_str_radix(&bits[at..at + 8], 2).expect("bits");
-    let bytes = (0..bits.len()).step_by(8).map(byte);
-    HEADER.into_iter().chain(bytes).collect()
-}
 
 /// What is read, with the text, in room enough. Behind the text the room is kept.
 fn read_all(data: &[u8]) -> Result<(Text, Vec<u8>), u8> {
@@ -46,17 +36,6 @@ fn rewritten(data: &[u8]) -> Result<Vec<u8>, u8> {
     write_all(header.hours, header.minutes, header.padding, &text)
 }
 
-/// The code that RULES 'Weather texts' gives a character.
-fn listed(character: u8) -> Option<u8> {
-    match character {
-        b'A'..=b'Z' => Some(character - 64),
-        0x1E => Some(29),
-        0x0A => Some(30),
-        32..=63 => Some(character),
-        _ => None,
-    }
-}
-
 /// Five reports, the same but for the airport; 001 spells out the first words. A tab
 /// is in it, and no code 0 closes it.
 #[test]
@@ -76,7 +55,7 @@ fn sample_of_001() {
         assert_eq!((header.hours, header.minutes), (16, 25));
         assert_eq!((header.padding, header.length), (0, 87));
         assert!(!is_closed(data));
-        let codes: Option<Vec<u8>> = expected.bytes().map(listed).collect();
+        let codes: Option<Vec<u8>> = expected.bytes().map(code_of).collect();
         let closed = [codes.expect("codes"), vec![0]].concat();
         assert_eq!(rewritten(data), Ok(packed(&closed)));
     }
@@ -142,7 +121,7 @@ fn every_code_at_every_place() {
     for code in (0..64).filter(|&code| code != 28) {
         for (front, behind) in (0..81).map(|n| (n / 9, n % 9)) {
             let data = packed(&[&[33; 8][..front], &[code], &[34; 8][..behind]].concat());
-            let character = (0..=255).find(|&character| listed(character) == Some(code));
+            let character = (0..=255).find(|&character| code_of(character) == Some(code));
             let expected = match (code, character) {
                 (0, _) => Ok(vec![b'!'; front]),
                 (_, None) => Err(16),
@@ -183,7 +162,7 @@ fn texts_with_tabs() {
                 text.resize(text.len() + count, b' ');
             } else {
                 let more = any_text(&mut random, 1);
-                codes.extend(listed(more[0]));
+                codes.extend(code_of(more[0]));
                 text.extend(more);
             }
         }
@@ -323,20 +302,13 @@ fn every_character_to_write() {
     for character in 0..=255 {
         for (front, behind) in (0..25).map(|n| (n / 5, n % 5)) {
             let text = [&[b'!'; 5][..front], &[character], &[b'"'; 5][..behind]].concat();
-            let expected = listed(character).map(|code| {
+            let expected = code_of(character).map(|code| {
                 let codes = [&[33; 5][..front], &[code], &[34; 5][..behind], &[0]];
                 packed(&codes.concat())
             });
             assert_eq!(write_all(16, 25, 0, &text), expected.ok_or(16));
         }
     }
-}
-
-/// A text that can be written.
-fn any_text(random: &mut Xorshift, length: usize) -> Vec<u8> {
-    let characters: Vec<u8> = (0..=255).filter(|&byte| listed(byte).is_some()).collect();
-    let any = |_| characters[random.below(characters.len())];
-    (0..length).map(any).collect()
 }
 
 #[test]

@@ -1,8 +1,8 @@
 //! Made-up weather texts, and data of information frames that carry such: the
 //! same for the same seed.
 
-use reference::text::{END, HEADER_LENGTH, TAB};
-use reference::xorshift::Xorshift;
+use crate::text::{END, HEADER_LENGTH, TAB};
+use crate::xorshift::Xorshift;
 
 /// The header of 001 §5.2.4: 16 hours, 25 minutes, padding 0.
 pub const HEADER: [u8; HEADER_LENGTH] = [0x06, 0x74, 0x41, 0x90];
