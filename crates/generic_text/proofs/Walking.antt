@@ -136,7 +136,7 @@ module _ (bytes codes : List ℕ) where
   pub run-passes : (c n : ℕ) (rest : Cursor) → (c ≡ 0 → ⊥) → Passes bytes codes (replicate n c) rest → NextRun bytes codes (record { byte = c; times = n; rest = rest })
   run-passes c n rest h p = record { run = λ k. p; ends = λ z y. absurd (h z); faults = λ z k. absurd (h z) }
 
-  -- they behindHeader with one
+  -- they start with one
   module _ (code : ℕ) (t : Cursor) (e : codes ≡ code ∷ codesFrom bytes t) where
     pub ended : code ≡ 0 → textOfCodes codes ≡ some []
     ended z = ap textOfCodes (e ∙ ap (λ (k : ℕ). k ∷ codesFrom bytes t) z) ∙ text-end (codesFrom bytes t)

@@ -47,7 +47,7 @@ withHeader c d (some t) = decoded (textWith (hoursIn c) (minutesIn c d) (padding
 withHeader c d none = refused 16
 
 -- 14 for fewer than four header bytes; 15 unless the header is a text's; 16 for codes that make no text. Codes are six bits each,
--- closedBytes high bit first; leftover bits are not read
+-- packed high bit first; leftover bits are not read
 unfoldable pub decode : List ℕ → Decoded
 decode apdu =
     cond (ltb (length apdu) 4) (refused 14)

@@ -74,7 +74,7 @@ enum Measured {
     Fault,
 }
 
-// Reads the text of an information frame's data to the behindHeader of `out`.
+// Reads the text of an information frame's data to the start of `out`.
 pub fn read(apdu: &[u8], out: &mut [u8]) -> TextReading
     ensures { λ r. ⌜ ReadText (decode (now (apdu .entry))) (now (out .entry)) r (now (out .exit)) ⌝ }
 {
@@ -342,7 +342,7 @@ fn next_code(apdu: &[u8], s: Cursor) -> Next
     }
 }
 
-// Writes a text with its header to the behindHeader of `out`.
+// Writes a text with its header to the start of `out`.
 pub fn write(hours: u8, minutes: u8, padding: u8, text: &[u8], out: &mut [u8]) -> Written
     ensures { λ r. ⌜ WroteText (textWith hours minutes padding (now (text .entry))) (now (out .entry)) r (now (out .exit)) ⌝ }
 {

@@ -21,7 +21,7 @@ use Rattle.generic_text.specs.Answers.{ReadText, WroteText}
 use Rattle.uplink_text.specs.Texts.{textIn, messageText}
 
 -- from an uplink message to its text: frame n's data, handed on as a part and read, are the text of frame n. Nothing is copied: the
--- part stands in the message's own memory, behind the payload's behindHeader, the payload's header of 8 bytes and the frame's own of 2
+-- part stands in the message's own memory, behind the payload's start, the payload's header of 8 bytes and the frame's own of 2
 abbrev pub PartRead : Type 0
 PartRead =
     (m part out left : List ℕ) (n : ℕ) (at place : ℕ × ℕ) (f : Frame) (answer : TextReading) → nthFrame (messageFrames m) n ≡ nth.Frame f

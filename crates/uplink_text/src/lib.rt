@@ -5,7 +5,7 @@ ghost use Rattle.uplink_text.specs.Texts.{messageText};
 use generic_text::TextReading;
 use uplink::Found;
 
-// Reads the text of frame n, numbered from 0, to the behindHeader of `out`. The frame's type is not looked at: `uplink_message::nth` has it.
+// Reads the text of frame n, numbered from 0, to the start of `out`. The frame's type is not looked at: `uplink_message::nth` has it.
 pub fn read(message: &[u8], n: usize, out: &mut [u8]) -> TextReading
     ensures { λ r. ⌜ ReadText (messageText (now (message .entry)) n) (now (out .entry)) r (now (out .exit)) ⌝ }
 {
