@@ -1,4 +1,4 @@
--- The ways textReading and textWriting end.
+-- The ways reading and writing a text end.
 -- Assumes nothing.
 use mathlib.Core.Path.{_≡_, refl, sym, ap, _∙_}
 use mathlib.Core.Bool.{true, false}
