@@ -1,5 +1,6 @@
 pub mod Walking
 pub mod Scanning
+pub mod Refusing
 pub mod Answering
 pub mod Rows
 pub mod Copying

@@ -59,9 +59,9 @@ module _ (p : List ℕ) (n : ℕ) where
     unfolding scanned
     stops e = rw (c .rest, e, before-end, c .counts, c .keeps)
 
-    pub refuses : (k : ℕ) → walk at 0 (drop (at + 8) p) ≡ refused k → Refused k ≡ scanned n (payloadFrames p)
-    unfolding scanned framesBefore
-    refuses k e = rw (c .rest, e)
+    refuses : {k : ℕ} → walk at 0 (drop (at + 8) p) ≡ refused k → payloadFrames p ≡ refused k
+    unfolding framesBefore
+    refuses e = rw (c .rest, e)
 
     pub at-the-end : 423 ≤ at → Listed count at frame ≡ scanned n (payloadFrames p)
     at-the-end h = stops (short at _ (omega (arith, length-drop (at + 8) p)))
@@ -80,11 +80,16 @@ module _ (p : List ℕ) (n : ℕ) where
         pub at-end : f .length ≡ 0 → Listed count at frame ≡ scanned n (payloadFrames p)
         at-end z = stops (rw two (ended at _ _ _ f is z))
 
+        pub refused-past : (f .length ≡ 0 → ⊥) → 422 - at < f .length → payloadFrames p ≡ refused 11
+        refused-past z l = refuses (rw two (past at _ _ _ f is z (omega (arith, left))))
+
         pub runs-past : (f .length ≡ 0 → ⊥) → 422 - at < f .length → Refused 11 ≡ scanned n (payloadFrames p)
-        runs-past z l = refuses 11 (rw two (past at _ _ _ f is z (omega (arith, left))))
+        unfolding scanned
+        runs-past z l = rw (refused-past z l)
 
         pub too-long : f .length ≤ 422 - at → 422 < f .length → Refused 12 ≡ scanned n (payloadFrames p)
-        too-long l m = refuses 12 (rw two (long at _ _ _ f is (omega (arith, left)) m))
+        unfolding scanned
+        too-long l m = rw (refuses {k = 12} (rw two (long at _ _ _ f is (omega (arith, left)) m)))
 
         pub goes-on : (f .length ≡ 0 → ⊥) → f .length ≤ 422 - at → f .length ≤ 422 → (g : Frame) → g ≡ cond (eqb count n) f frame
             → Reached (at + (f .length + 2)) (count + 1) g

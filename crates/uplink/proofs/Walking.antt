@@ -8,7 +8,7 @@ use native.Mathlib.Omega.{arith}
 use native.Mathlib.Nat.{add-zero}
 use lib.Dec.{eqb, ltb}
 use lib.ListN.{length, drop}
-use borrow.Author.Tests.{eq-eqb, ne-eqb, lt-ltb, le-ltb, eqb-true, eqb-false, ltb-false}
+use borrow.Author.Tests.{eq-eqb, ne-eqb, lt-ltb, le-ltb, eqb-true, eqb-false, ltb-true, ltb-false}
 use Rattle.uplink.specs.declared.Frame.{Frame}
 use Rattle.uplink.specs.Frames.{lengthIn, headed}
 use Rattle.uplink.specs.Walk.{Frames, listed, refused, framesBefore, walk, validBit, payloadFrames}
@@ -65,10 +65,11 @@ module _ (at a b : ℕ) (xs : List ℕ) (f : Frame) (is : f ≡ headed at a b) w
       let e : suc (suc at) + f .length ≡ at + (f .length + 2) = omega arith in
       rw (← is, size, ne-eqb (f .length) 0 z, le-ltb (length xs) (f .length) l, le-ltb 422 (f .length) m, passed (f .length) (suc (suc at)) xs l, e)
 
--- what holds of a list that ends, of a refusal, and of a list with one frame more at its front, holds of every walk
+-- what holds of a list that ends, of 11, of 12, and of a list with one frame more at its front, holds of every walk
 module _ (P : ℕ → List ℕ → Frames → Type 0)
     (end : (at : ℕ) (xs : List ℕ) → P at xs (listed [] at))
-    (refuse : (at : ℕ) (xs : List ℕ) (k : ℕ) → P at xs (refused k))
+    (eleven : (at : ℕ) (xs : List ℕ) → P at xs (refused 11))
+    (twelve : (at a b : ℕ) (xs : List ℕ) → lengthIn a b ≤ length xs → 422 < lengthIn a b → P at (a ∷ b ∷ xs) (refused 12))
     (front : (at a b : ℕ) (xs : List ℕ) (w : Frames) → 0 < lengthIn a b → lengthIn a b ≤ length xs → lengthIn a b ≤ 422
     → P (at + (lengthIn a b + 2)) (drop (lengthIn a b) xs) w → P at (a ∷ b ∷ xs) (framesBefore (headed at a b ∷ []) w)) where
   every : (at skip : ℕ) (xs : List ℕ) → skip ≤ length xs → P (at + skip) (drop skip xs) (walk at skip xs)
@@ -85,8 +86,8 @@ module _ (P : ℕ → List ℕ → Frames → Type 0)
           → (lengthIn a b ≤ length xs → P (suc (suc at) + lengthIn a b) (drop (lengthIn a b) xs) (walk (suc (suc at)) (lengthIn a b) xs))
           → P at (a ∷ b ∷ xs) (cond t (listed [] at) (cond u (refused 11) (cond v (refused 12) (framesBefore (headed at a b ∷ []) (walk (suc (suc at)) (lengthIn a b) xs)))))
       go true e u f v g ih = end at (a ∷ b ∷ xs)
-      go false e true f v g ih = refuse at (a ∷ b ∷ xs) 11
-      go false e false f true g ih = refuse at (a ∷ b ∷ xs) 12
+      go false e true f v g ih = eleven at (a ∷ b ∷ xs)
+      go false e false f true g ih = twelve at a b xs (ltb-false (length xs) (lengthIn a b) f) (ltb-true 422 (lengthIn a b) g)
       go false e false f false g ih =
           let l = ltb-false (length xs) (lengthIn a b) f in
           let s : suc (suc at) + lengthIn a b ≡ at + (lengthIn a b + 2) = omega arith in

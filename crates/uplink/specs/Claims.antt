@@ -1,21 +1,60 @@
 -- What is proved of listing and adding (RULES 'Uplink payloads', 'Adding a frame'), over the definitions that the contracts cite.
 -- Assumes nothing.
 use mathlib.Core.Path.{_≡_}
+use mathlib.Core.Bool.{Bool, true, false, _||_}
 use Prim.Native.Nat.{ℕ, _+_, _<_, _≤_}
 use mathlib.Core.List.{List, [], _∷_, _++_}
-use lib.ListN.{length, drop}
+use lib.Dec.{eqb}
+use lib.ListN.{length, getD, drop}
 use Rattle.uplink.specs.declared.Frame.{Frame}
 use Rattle.uplink.specs.declared.Found.the-variants as nth
 use Rattle.uplink.specs.declared.FrameList.the-variants as list
 use Rattle.uplink.specs.declared.Added.the-variants.{Done}
-use Rattle.uplink.specs.Walk.{listed, validBit, payloadFrames}
-use Rattle.uplink.specs.Answers.{frameList, nthFrame, dataIn}
-use Rattle.uplink.specs.Adding.{Adds}
+use Rattle.uplink.specs.Frames.{lengthIn}
+use Rattle.uplink.specs.Walk.{listed, refused, validBit, payloadFrames}
+use Rattle.uplink.specs.Answers.{frameList, nthFrame, dataIn, listNumber, foundNumber}
+use Rattle.uplink.specs.Adding.{adding, addedNumber, Adds}
 use Rattle.uplink.specs.Contents.{Content, contents, newFrame, newContent}
 
 -- the payload fixes the list: its length, its valid bit and its application data do, and no other bit of its header
 abbrev pub Fixed : Type 0
 Fixed = (p q : List ℕ) → length p ≡ length q → validBit p ≡ validBit q → drop 8 p ≡ drop 8 q → payloadFrames p ≡ payloadFrames q
+
+-- the length in the header at byte `at` of the application data
+abbrev pub lengthAt : List ℕ → ℕ → ℕ
+lengthAt p at = lengthIn (getD p (at + 8) 0) (getD p (at + 9) 0)
+
+-- where a frame starts: at byte 0, or directly behind a frame with some data, where two bytes are left for its header
+pub data Starts (p : List ℕ) : ℕ → Type 0 where
+  first : Starts p 0
+  next : {at : ℕ} → Starts p at → 0 < lengthAt p at → at + (lengthAt p at + 2) ≤ 422 → Starts p (at + (lengthAt p at + 2))
+
+-- a length over 422 is answered 11, wherever a frame starts: its header and its data need more than the 424 bytes
+abbrev pub Over422Is11 : Type 0
+Over422Is11 =
+    (p : List ℕ) (at : ℕ) → length p ≡ 432 → validBit p ≡ 1 → Starts p at → 422 < lengthAt p at → payloadFrames p ≡ refused 11
+
+unfoldable pub isOneOf : List ℕ → ℕ → Bool
+isOneOf [] k = false
+isOneOf (j ∷ js) k = eqb k j || isOneOf js k
+
+-- the numbers of a list; of a frame, and so of its data; of adding
+abbrev pub numbersOfList : List ℕ
+numbersOfList = 0 ∷ 7 ∷ 11 ∷ []
+
+abbrev pub numbersOfFrame : List ℕ
+numbersOfFrame = 0 ∷ 7 ∷ 11 ∷ 13 ∷ []
+
+abbrev pub numbersOfAdding : List ℕ
+numbersOfAdding = 0 ∷ 7 ∷ 11 ∷ 8 ∷ 9 ∷ []
+
+-- no other is answered: 12 never is
+abbrev pub Numbers : Type 0
+Numbers =
+    (p : List ℕ) (n kind size : ℕ)
+    → (isOneOf numbersOfList (listNumber (frameList (payloadFrames p))) ≡ true)
+    × (isOneOf numbersOfFrame (foundNumber (nthFrame (payloadFrames p) n)) ≡ true)
+    × (isOneOf numbersOfAdding (addedNumber (adding (payloadFrames p) kind size)) ≡ true)
 
 -- each frame has at least three of the 424 bytes
 abbrev pub AtMost141 : Type 0
