@@ -151,7 +151,7 @@ static void check_headers(void)
     CASE(refused(payload, 432, 11));
     payload[6] = 0xDF;
     CASE(lists(payload, 0, 0));
-    make(payload, VALID, "FF80"); /* 511; 12 is never given: 11 is checked before */
+    make(payload, VALID, "FF80"); /* 511: a length over 422 runs past the data */
     CASE(refused(payload, 432, 11));
 
     /* the second frame is the one that runs past: 302 and 2 and 120 are 424 */

@@ -28,12 +28,12 @@ grows-none at xs =
 
 grows : (at : ℕ) (xs : List ℕ) → Grows at xs (walk at 0 xs)
 unfolding Grows framesBefore
-grows = every-walk Grows grows-none (λ at xs. tt) (λ at a b xs l m. tt) front
+grows = every-walk Grows grows-none (λ at xs. tt) front
   where
-    front : (at a b : ℕ) (xs : List ℕ) (w : Frames) → 0 < lengthIn a b → lengthIn a b ≤ length xs → lengthIn a b ≤ 422
+    front : (at a b : ℕ) (xs : List ℕ) (w : Frames) → 0 < lengthIn a b → lengthIn a b ≤ length xs
         → Grows (at + (lengthIn a b + 2)) (drop (lengthIn a b) xs) w → Grows at (a ∷ b ∷ xs) (framesBefore (headed at a b ∷ []) w)
-    front at a b xs (refused k) z l m g = tt
-    front at a b xs (listed fs end) z l m g =
+    front at a b xs (refused k) z l g = tt
+    front at a b xs (listed fs end) z l g =
         let n = lengthIn a b in
         let k = end - (at + (n + 2)) in
         let e : end - at ≡ suc (suc (n + k)) = omega (arith, g .0) in (
@@ -42,7 +42,7 @@ grows = every-walk Grows grows-none (λ at xs. tt) (λ at a b xs l m. tt) front
               let zs = take k (drop n xs) ++ ys in
               let t : length (take n xs) ≡ n = length-take-le n xs l in
               rw (e, take-add, append-assoc)
-              (more at a b (take n xs ++ zs) (headed at a b) refl (λ e. omega arith) (omega (arith, length-append (take n xs) zs, t)) m
+              (more at a b (take n xs ++ zs) (headed at a b) refl (λ e. omega arith) (omega (arith, length-append (take n xs) zs, t))
               ∙ rw (drop-at (take n xs) zs n t, g .1) (before-both (headed at a b ∷ []) fs (walk end 0 ys))),
         )
 
@@ -61,15 +61,15 @@ zeros at (suc zero) = short at (0 ∷ []) (omega arith)
 zeros at (suc (suc k)) = ended at 0 0 (replicate k 0) (headed at 0 0) refl refl
 
 -- the bytes of a frame, and others behind them
-new-frame : (end kind : ℕ) (xs zs : List ℕ) → kind ≤ 15 → 1 ≤ length xs → length xs ≤ 422
+new-frame : (end kind : ℕ) (xs zs : List ℕ) → kind ≤ 15 → 1 ≤ length xs
     → walk end 0 (frameBytes kind xs ++ zs) ≡ framesBefore (newFrame end kind xs ∷ []) (walk (end + (length xs + 2)) 0 zs)
 unfolding frameBytes
-new-frame end kind xs zs small some most =
+new-frame end kind xs zs small some =
     let b = length xs % 2 * 128 + kind in
     let n : length xs / 2 * 2 + b / 128 ≡ length xs = omega arith in
     let r : b / 16 % 8 ≡ 0 = omega arith in
     let k : b % 16 ≡ kind = omega arith in
-    more end (length xs / 2) b (xs ++ zs) (newFrame end kind xs) (rw (n, r, k)) (λ e. omega arith) (omega (arith, length-append xs zs)) most
+    more end (length xs / 2) b (xs ++ zs) (newFrame end kind xs) (rw (n, r, k)) (λ e. omega arith) (omega (arith, length-append xs zs))
     ∙ rw drop-append-seam
 
 -- a part that lies in the first of two lists
@@ -107,13 +107,13 @@ module _ (p : List ℕ) (end kind : ℕ) (xs : List ℕ) (size : length p ≡ 43
       rw (drop-append-le 8 front back (omega (arith, front-size)), e, take-add, drop-at (take 8 valid) (take end (drop 8 valid)) 8 (length-take-le 8 valid (simp length-set (omega arith))), drop-set-lt 8 p 6 (withValidBit (getD p 6 0)) (omega arith))
 
   -- the list of the payload with the frame: the old one, and the new frame at its end
-  pub grown : (fs : List Frame) → payloadFrames p ≡ listed fs end → kind ≤ 15 → 1 ≤ length xs → length xs ≤ 422
+  pub grown : (fs : List Frame) → payloadFrames p ≡ listed fs end → kind ≤ 15 → 1 ≤ length xs
       → payloadFrames (withFrame p end kind xs) ≡ listed (fs ++ (newFrame end kind xs ∷ [])) (end + (length xs + 2))
   unfolding payloadFrames
-  grown fs is small some most =
+  grown fs is small some =
       rw (q-is, eq-eqb (length (front ++ back)) 432 q-size, eq-eqb (validBit (front ++ back)) 1 q-valid, q-data)
       (continued p is back
-      ∙ rw (new-frame end kind xs _ small some most, zeros, before-both, before-end))
+      ∙ rw (new-frame end kind xs _ small some, zeros, before-both, before-end))
 
   -- what lies before the list's end is as it was
   pub old-data : (f : Frame) → f .at + (f .length + 2) ≤ end → dataIn (withFrame p end kind xs) f ≡ dataIn p f

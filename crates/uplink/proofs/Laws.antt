@@ -53,7 +53,7 @@ added-listed p q kind xs fs end is a =
     let h = met fs end kind (length xs) (rw is at (a .answers)) in
     let g = good kind (length xs) (h .0) in
     let w : q ≡ withFrame p end kind xs = rw is at (a .leaves) in
-    let l : payloadFrames q ≡ listed (fs ++ (newFrame end kind xs ∷ [])) (end + (length xs + 2)) = rw w (grown p end kind xs (s .0) (h .1) fs is (g .0) (g .1) (g .2)) in (
+    let l : payloadFrames q ≡ listed (fs ++ (newFrame end kind xs ∷ [])) (end + (length xs + 2)) = rw w (grown p end kind xs (s .0) (h .1) fs is (g .0) (g .1)) in (
       l,
       rw (l, is, map-one, w, new-data p end kind xs (s .0) (h .1), alike (contentOf (withFrame p end kind xs)) (contentOf p) end (λ f i. rw (old-data p end kind xs (s .0) (h .1) f i)) 0 fs (s .1)),
     )

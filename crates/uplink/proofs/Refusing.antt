@@ -1,4 +1,4 @@
--- The numbers with which a payload is refused, and that 12 is none of them.
+-- The numbers with which a payload is refused.
 -- Assumes nothing.
 use mathlib.Core.Path.{_≡_, refl}
 use mathlib.Core.Bool.{Bool, true, false, cond}
@@ -6,12 +6,12 @@ use mathlib.Core.List.{List, [], _++_}
 use Prim.Native.Nat.{ℕ, _+_, _<_, _≤_}
 use native.Mathlib.Omega.{arith}
 use lib.Dec.{ltb}
-use lib.ListN.{length, getD, drop, length-drop}
+use lib.ListN.{length, getD, drop}
 use Rattle.uplink.specs.declared.Frame.{Frame}
 use Rattle.uplink.specs.declared.Found.the-variants as nth
 use Rattle.uplink.specs.declared.Added.the-variants.{Done, Refused}
-use Rattle.uplink.specs.Frames.{lengthIn, headed}
-use Rattle.uplink.specs.Walk.{Frames, listed, refused, framesBefore, walk, validBit, payloadFrames}
+use Rattle.uplink.specs.Frames.{headed}
+use Rattle.uplink.specs.Walk.{Frames, listed, refused, framesBefore, validBit, payloadFrames}
 use Rattle.uplink.specs.Answers.{frameList, nthFrame, listNumber, foundNumber, none}
 use Rattle.uplink.specs.Adding.{isGood, adding, addedNumber}
 use Rattle.uplink.specs.Claims.{Starts, first, next, Over422Is11, isOneOf, numbersOfList, numbersOfFrame, numbersOfAdding, Numbers}
@@ -24,7 +24,7 @@ module _ (p : List ℕ) (size : length p ≡ 432) (valid : validBit p ≡ 1) whe
   reached first = (omega arith, 0, headed 0 0 0, start p 0 (headed 0 0 0) refl size valid)
   reached (next s some l) =
       let r = reached s in
-      (omega arith, _, _, goes-on p 0 (r .3) (r .0) (headed _ _ _) refl (λ e. omega arith) (omega arith) (omega arith) _ refl)
+      (omega arith, _, _, goes-on p 0 (r .3) (r .0) (headed _ _ _) refl (λ e. omega arith) (omega arith) _ refl)
 
 pub over-422-is-11 : Over422Is11
 over-422-is-11 p at size valid s long =
@@ -38,13 +38,9 @@ module _ (P : Frames → Type 0) (end : (fs : List Frame) (at : ℕ) → P (list
   before fs (listed gs at) h = end (fs ++ gs) at
   before fs (refused k) h = h
 
-  walked : (at : ℕ) (xs : List ℕ) → length xs ≤ 424 → P (walk at 0 xs)
-  walked =
-      every-walk (λ at xs w. length xs ≤ 424 → P w) (λ at xs h. end [] at) (λ at xs h. eleven) (λ at a b xs l m h. absurd (omega arith))
-      (λ at a b xs w z l m ih h. before _ w (ih (omega (arith, length-drop (lengthIn a b) xs))))
-
   refusals : (p : List ℕ) → P (payloadFrames p)
-  refusals p = every-payload p P (λ h. walked 0 (drop 8 p) (omega (arith, length-drop 8 p))) (λ h. end [] 0) seven
+  refusals p =
+      every-payload p P (λ h. every-walk (λ at xs w. P w) (λ at xs. end [] at) (λ at xs. eleven) (λ at a b xs w z l ih. before _ w ih) 0 (drop 8 p)) (λ h. end [] 0) seven
 
 pub numbers : Numbers
 unfolding isOneOf frameList nthFrame adding

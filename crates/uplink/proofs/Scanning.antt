@@ -14,7 +14,7 @@ use Rattle.uplink.specs.declared.Walked.the-variants.{Listed, Refused}
 use Rattle.uplink.specs.Frames.{headed}
 use Rattle.uplink.specs.Walk.{listed, refused, framesBefore, walk, validBit, payloadFrames}
 use Rattle.uplink.specs.Answers.{scanned, none}
-use Rattle.uplink.proofs.Walking.{before-none, before-both, before-end, short, ended, past, long, more}
+use Rattle.uplink.proofs.Walking.{before-none, before-both, before-end, short, ended, past, more}
 
 -- frame n of a list with one frame more at its end
 one-more : (fs : List Frame) (f : Frame) (n : ℕ) → getD (fs ++ (f ∷ [])) n none ≡ cond (eqb (length fs) n) f (getD fs n none)
@@ -59,10 +59,6 @@ module _ (p : List ℕ) (n : ℕ) where
     unfolding scanned
     stops e = rw (c .rest, e, before-end, c .counts, c .keeps)
 
-    refuses : {k : ℕ} → walk at 0 (drop (at + 8) p) ≡ refused k → payloadFrames p ≡ refused k
-    unfolding framesBefore
-    refuses e = rw (c .rest, e)
-
     pub at-the-end : 423 ≤ at → Listed count at frame ≡ scanned n (payloadFrames p)
     at-the-end h = stops (short at _ (omega (arith, length-drop (at + 8) p)))
 
@@ -81,22 +77,19 @@ module _ (p : List ℕ) (n : ℕ) where
         at-end z = stops (rw two (ended at _ _ _ f is z))
 
         pub refused-past : (f .length ≡ 0 → ⊥) → 422 - at < f .length → payloadFrames p ≡ refused 11
-        refused-past z l = refuses (rw two (past at _ _ _ f is z (omega (arith, left))))
+        unfolding framesBefore
+        refused-past z l = rw (c .rest, two, past at _ _ (drop (at + 10) p) f is z (omega (arith, left)))
 
         pub runs-past : (f .length ≡ 0 → ⊥) → 422 - at < f .length → Refused 11 ≡ scanned n (payloadFrames p)
         unfolding scanned
         runs-past z l = rw (refused-past z l)
 
-        pub too-long : f .length ≤ 422 - at → 422 < f .length → Refused 12 ≡ scanned n (payloadFrames p)
-        unfolding scanned
-        too-long l m = rw (refuses {k = 12} (rw two (long at _ _ _ f is (omega (arith, left)) m)))
-
-        pub goes-on : (f .length ≡ 0 → ⊥) → f .length ≤ 422 - at → f .length ≤ 422 → (g : Frame) → g ≡ cond (eqb count n) f frame
+        pub goes-on : (f .length ≡ 0 → ⊥) → f .length ≤ 422 - at → (g : Frame) → g ≡ cond (eqb count n) f frame
             → Reached (at + (f .length + 2)) (count + 1) g
-        goes-on z l m g k =
+        goes-on z l g k =
             let e : at + 10 + f .length ≡ at + (f .length + 2) + 8 = omega arith in
             let w : walk at 0 (drop (at + 8) p) ≡ framesBefore (f ∷ []) (walk (at + (f .length + 2)) 0 (drop (at + (f .length + 2) + 8) p)) =
-            rw two (more at _ _ _ f is z (omega (arith, left)) m ∙ rw (drop-drop, e)) in
+            rw two (more at _ _ _ f is z (omega (arith, left)) ∙ rw (drop-drop, e)) in
             record {
               size = c .size;
               room = omega arith;

@@ -8,7 +8,7 @@ use native.Mathlib.Omega.{arith}
 use native.Mathlib.Nat.{add-zero}
 use lib.Dec.{eqb, ltb}
 use lib.ListN.{length, drop}
-use borrow.Author.Tests.{eq-eqb, ne-eqb, lt-ltb, le-ltb, eqb-true, eqb-false, ltb-true, ltb-false}
+use borrow.Author.Tests.{eq-eqb, ne-eqb, lt-ltb, le-ltb, eqb-true, eqb-false, ltb-false}
 use Rattle.uplink.specs.declared.Frame.{Frame}
 use Rattle.uplink.specs.Frames.{lengthIn, headed}
 use Rattle.uplink.specs.Walk.{Frames, listed, refused, framesBefore, walk, validBit, payloadFrames}
@@ -54,23 +54,18 @@ module _ (at a b : ℕ) (xs : List ℕ) (f : Frame) (is : f ≡ headed at a b) w
   unfolding walk
   past z l = rw (size, ne-eqb (f .length) 0 z, lt-ltb (length xs) (f .length) l)
 
-  pub long : f .length ≤ length xs → 422 < f .length → walk at 0 (a ∷ b ∷ xs) ≡ refused 12
-  unfolding walk
-  long l m = rw (size, ne-eqb (f .length) 0 (λ e. omega arith), le-ltb (length xs) (f .length) l, lt-ltb 422 (f .length) m)
-
-  pub more : (f .length ≡ 0 → ⊥) → f .length ≤ length xs → f .length ≤ 422
+  pub more : (f .length ≡ 0 → ⊥) → f .length ≤ length xs
       → walk at 0 (a ∷ b ∷ xs) ≡ framesBefore (f ∷ []) (walk (at + (f .length + 2)) 0 (drop (f .length) xs))
   unfolding walk
-  more z l m =
+  more z l =
       let e : suc (suc at) + f .length ≡ at + (f .length + 2) = omega arith in
-      rw (← is, size, ne-eqb (f .length) 0 z, le-ltb (length xs) (f .length) l, le-ltb 422 (f .length) m, passed (f .length) (suc (suc at)) xs l, e)
+      rw (← is, size, ne-eqb (f .length) 0 z, le-ltb (length xs) (f .length) l, passed (f .length) (suc (suc at)) xs l, e)
 
--- what holds of a list that ends, of 11, of 12, and of a list with one frame more at its front, holds of every walk
+-- what holds of a list that ends, of 11, and of a list with one frame more at its front, holds of every walk
 module _ (P : ℕ → List ℕ → Frames → Type 0)
     (end : (at : ℕ) (xs : List ℕ) → P at xs (listed [] at))
     (eleven : (at : ℕ) (xs : List ℕ) → P at xs (refused 11))
-    (twelve : (at a b : ℕ) (xs : List ℕ) → lengthIn a b ≤ length xs → 422 < lengthIn a b → P at (a ∷ b ∷ xs) (refused 12))
-    (front : (at a b : ℕ) (xs : List ℕ) (w : Frames) → 0 < lengthIn a b → lengthIn a b ≤ length xs → lengthIn a b ≤ 422
+    (front : (at a b : ℕ) (xs : List ℕ) (w : Frames) → 0 < lengthIn a b → lengthIn a b ≤ length xs
     → P (at + (lengthIn a b + 2)) (drop (lengthIn a b) xs) w → P at (a ∷ b ∷ xs) (framesBefore (headed at a b ∷ []) w)) where
   every : (at skip : ℕ) (xs : List ℕ) → skip ≤ length xs → P (at + skip) (drop skip xs) (walk at skip xs)
   unfolding walk
@@ -80,18 +75,17 @@ module _ (P : ℕ → List ℕ → Frames → Type 0)
       let e : suc at + skip ≡ at + suc skip = omega arith in
       subst (λ (n : ℕ). P n (drop skip xs) (walk (suc at) skip xs)) e (every (suc at) skip xs (omega arith))
   every at zero (a ∷ []) h = rw add-zero (end at (a ∷ []))
-  every at zero (a ∷ b ∷ xs) h = rw add-zero (go _ refl _ refl _ refl (every (suc (suc at)) (lengthIn a b) xs))
+  every at zero (a ∷ b ∷ xs) h = rw add-zero (go _ refl _ refl (every (suc (suc at)) (lengthIn a b) xs))
     where
-      go : (t : Bool) → eqb (lengthIn a b) 0 ≡ t → (u : Bool) → ltb (length xs) (lengthIn a b) ≡ u → (v : Bool) → ltb 422 (lengthIn a b) ≡ v
+      go : (t : Bool) → eqb (lengthIn a b) 0 ≡ t → (u : Bool) → ltb (length xs) (lengthIn a b) ≡ u
           → (lengthIn a b ≤ length xs → P (suc (suc at) + lengthIn a b) (drop (lengthIn a b) xs) (walk (suc (suc at)) (lengthIn a b) xs))
-          → P at (a ∷ b ∷ xs) (cond t (listed [] at) (cond u (refused 11) (cond v (refused 12) (framesBefore (headed at a b ∷ []) (walk (suc (suc at)) (lengthIn a b) xs)))))
-      go true e u f v g ih = end at (a ∷ b ∷ xs)
-      go false e true f v g ih = eleven at (a ∷ b ∷ xs)
-      go false e false f true g ih = twelve at a b xs (ltb-false (length xs) (lengthIn a b) f) (ltb-true 422 (lengthIn a b) g)
-      go false e false f false g ih =
+          → P at (a ∷ b ∷ xs) (cond t (listed [] at) (cond u (refused 11) (framesBefore (headed at a b ∷ []) (walk (suc (suc at)) (lengthIn a b) xs))))
+      go true e u f ih = end at (a ∷ b ∷ xs)
+      go false e true f ih = eleven at (a ∷ b ∷ xs)
+      go false e false f ih =
           let l = ltb-false (length xs) (lengthIn a b) f in
           let s : suc (suc at) + lengthIn a b ≡ at + (lengthIn a b + 2) = omega arith in
-          front at a b xs _ (omega (arith, eqb-false (lengthIn a b) 0 e)) l (ltb-false 422 (lengthIn a b) g)
+          front at a b xs _ (omega (arith, eqb-false (lengthIn a b) 0 e)) l
           (subst (λ (k : ℕ). P k (drop (lengthIn a b) xs) (walk (suc (suc at)) (lengthIn a b) xs)) s (ih l))
 
   pub every-walk : (at : ℕ) (xs : List ℕ) → P at xs (walk at 0 xs)

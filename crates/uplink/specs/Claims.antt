@@ -34,6 +34,7 @@ abbrev pub Over422Is11 : Type 0
 Over422Is11 =
     (p : List ℕ) (at : ℕ) → length p ≡ 432 → validBit p ≡ 1 → Starts p at → 422 < lengthAt p at → payloadFrames p ≡ refused 11
 
+-- whether a list has a number
 unfoldable pub isOneOf : List ℕ → ℕ → Bool
 isOneOf [] k = false
 isOneOf (j ∷ js) k = eqb k j || isOneOf js k
@@ -48,7 +49,7 @@ numbersOfFrame = 0 ∷ 7 ∷ 11 ∷ 13 ∷ []
 abbrev pub numbersOfAdding : List ℕ
 numbersOfAdding = 0 ∷ 7 ∷ 11 ∷ 8 ∷ 9 ∷ []
 
--- no other is answered: 12 never is
+-- and no other is answered
 abbrev pub Numbers : Type 0
 Numbers =
     (p : List ℕ) (n kind size : ℕ)

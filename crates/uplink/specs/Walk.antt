@@ -19,7 +19,7 @@ framesBefore fs (listed gs end) = listed (fs ++ gs) end
 framesBefore fs (refused k) = refused k
 
 -- the list from byte `at` on, of which the bytes are given and the first `skip` are data of the frame before. Fewer than two bytes
--- left, or length 0, ends it; at each header 11, then 12
+-- left, or length 0, ends it; data of more bytes than are left are refused with 11
 unfoldable pub walk : ℕ → ℕ → List ℕ → Frames
 walk at skip [] = listed [] at
 walk at (suc skip) (x ∷ xs) = walk (suc at) skip xs
@@ -27,8 +27,7 @@ walk at zero (a ∷ []) = listed [] at
 walk at zero (a ∷ b ∷ xs) =
     cond (eqb (lengthIn a b) 0) (listed [] at)
     (cond (ltb (length xs) (lengthIn a b)) (refused 11)
-    (cond (ltb 422 (lengthIn a b)) (refused 12)
-    (framesBefore (headed at a b ∷ []) (walk (suc (suc at)) (lengthIn a b) xs))))
+    (framesBefore (headed at a b ∷ []) (walk (suc (suc at)) (lengthIn a b) xs)))
 
 -- bit 5 of the seventh header byte
 abbrev pub validBit : List ℕ → ℕ

@@ -23,19 +23,19 @@ pub struct Frame {
 pub enum FrameList {
     // how many frames, and the byte of the application data at which their list ends
     Frames { count: usize, end: usize },
-    // the number: 7, payload not 432 bytes; 11, a frame runs past the application data; 12, a length over 422
+    // the number: 7, payload not 432 bytes; 11, a frame runs past the application data
     Refused(u8),
 }
 
 pub enum Found {
     Frame(Frame),
-    // the number: 7, 11, 12 as of `list`; 13, no frame with that number
+    // the number: 7, 11 as of `list`; 13, no frame with that number
     Refused(u8),
 }
 
 pub enum Added {
     Done,
-    // the number: 7, 11, 12 as of `list`; 8, a type over 15 or data not of 1 to 422 bytes; 9, no room
+    // the number: 7, 11 as of `list`; 8, a type over 15 or data not of 1 to 422 bytes; 9, no room
     Refused(u8),
 }
 
@@ -128,9 +128,6 @@ fn scan(payload: &[u8], n: usize) -> Walked
         }
         if 422 - at < size {
             return Walked::Refused(11);
-        }
-        if 422 < size {
-            return Walked::Refused(12);
         }
         frame = kept(count == n, f, frame);
         count += 1;

@@ -14,6 +14,6 @@ abbrev pub textIn : List ℕ → Found → Decoded
 textIn p (nth.Frame f) = decode (dataIn p f)
 textIn p (nth.Refused k) = refused k
 
--- the text of frame n of a message: 6, 7, 8 as reading the message; 11, 12, 13 as asking for the frame; 14, 15, 16
+-- the text of frame n of a message: 6, 7, 8 as reading the message; 11, 13 as asking for the frame; 14, 15, 16
 unfoldable pub messageText : List ℕ → ℕ → Decoded
 messageText m n = textIn (payloadOf m) (nthFrame (messageFrames m) n)

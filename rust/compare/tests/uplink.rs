@@ -189,6 +189,35 @@ fn every_header_agrees() {
     }
 }
 
+/// A length over 422 is answered 11, wherever a frame starts: at byte 0, or behind
+/// a frame of 1 to 420 bytes.
+#[test]
+fn lengths_over_422_are_11_wherever_a_frame_starts() {
+    let mut cases = 0;
+    for at in [0].into_iter().chain(3..=422) {
+        let mut data = vec![0; 424];
+        if at > 0 {
+            data[..2].copy_from_slice(&(((at - 2) as u16) << 7).to_be_bytes());
+        }
+        for length in 423..=511 {
+            // Reserved bits and type do not count.
+            let others = (at + length) as u16 % 128;
+            data[at..at + 2].copy_from_slice(&(length as u16 * 128 + others).to_be_bytes());
+            let mut payload = valid(&data);
+            assert_eq!(list(&payload).number, 11, "{length} at {at}");
+            for n in [0, 1, 2, usize::MAX] {
+                assert_eq!(nth(&payload, n).number, 11, "{length} at {at}");
+                assert_eq!(information_frame(&payload, n), Err(Error::PastTheData));
+            }
+            assert_lists_agree(&payload);
+            assert_eq!(assert_adds_agree(&mut payload, 0, &[0xEE]), 11);
+            assert_eq!(assert_adds_agree(&mut payload, 16, &[]), 11);
+            cases += 1;
+        }
+    }
+    assert_eq!(cases, 421 * 89);
+}
+
 /// Only bit 5 of the seventh byte counts in the header.
 #[test]
 fn every_bit_of_the_header_agrees() {

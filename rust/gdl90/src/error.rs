@@ -7,7 +7,7 @@ use std::fmt;
 /// A refusal leaves memory that was lent for output as it was.
 ///
 /// The numbers are fixed and none is used twice, but later ones will come:
-/// match with a last arm `_`.
+/// match with a last arm `_`. 12 is not used, and will not be.
 ///
 /// ```
 /// use gdl90::{Error, Message};
@@ -43,8 +43,6 @@ pub enum Error {
     MessageLength = 10,
     /// An information frame runs past the application data.
     PastTheData = 11,
-    /// An information frame's length is over 422.
-    InformationFrameTooLong = 12,
     /// No information frame has that number.
     NoSuchFrame = 13,
     /// Data of fewer bytes than a text's header has, four.
@@ -72,7 +70,6 @@ impl Error {
             9 => Self::NoRoom,
             10 => Self::MessageLength,
             11 => Self::PastTheData,
-            12 => Self::InformationFrameTooLong,
             13 => Self::NoSuchFrame,
             14 => Self::NoTextHeader,
             15 => Self::NotText,
@@ -117,7 +114,6 @@ impl fmt::Display for Error {
             Self::NoRoom => "there is too little room",
             Self::MessageLength => "a message to be framed has 1 to 436 bytes",
             Self::PastTheData => "an information frame runs past the application data",
-            Self::InformationFrameTooLong => "an information frame is longer than 422 bytes",
             Self::NoSuchFrame => "no information frame has that number",
             Self::NoTextHeader => "the data are shorter than a text's header",
             Self::NotText => "the data are not a weather text",
@@ -138,7 +134,8 @@ mod tests {
     fn numbers_there_and_back() {
         for number in 0..=255 {
             let error = Error::from_number(number);
-            assert_eq!(error.is_some(), (1..=16).contains(&number), "{number}");
+            let used = (1..=16).contains(&number) && number != 12;
+            assert_eq!(error.is_some(), used, "{number}");
             assert_eq!(error.map_or(number, Error::number), number);
         }
     }
@@ -147,7 +144,7 @@ mod tests {
     fn every_number_has_words_of_its_own() {
         let errors = || (1..=16).filter_map(Error::from_number);
         let words: std::collections::HashSet<String> = errors().map(|e| e.to_string()).collect();
-        assert_eq!(words.len(), 16);
+        assert_eq!(words.len(), 15);
     }
 
     #[test]
@@ -159,6 +156,6 @@ mod tests {
     #[test]
     #[should_panic(expected = "different versions")]
     fn unknown_numbers_are_not_taken_for_others() {
-        accepted(17, ()).unwrap_err();
+        accepted(12, ()).unwrap_err();
     }
 }

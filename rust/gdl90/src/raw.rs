@@ -193,7 +193,7 @@ pub fn write_uplink(value: Uplink, payload: &[u8], out: &mut [u8]) -> WriteAnswe
     unsafe { gdl90_write_uplink(value, from, payload.len(), to, out.len()) }
 }
 
-/// How many information frames a payload has: 7, 11, 12.
+/// How many information frames a payload has: 7, 11.
 #[inline]
 pub fn list(payload: &[u8]) -> ListAnswer {
     // SAFETY: pointer and length are those of one live slice, which is only read
@@ -201,15 +201,14 @@ pub fn list(payload: &[u8]) -> ListAnswer {
     unsafe { gdl90_list(payload.as_ptr(), payload.len()) }
 }
 
-/// Information frame n, numbered from 0: 7, 11, 12, 13.
+/// Information frame n, numbered from 0: 7, 11, 13.
 #[inline]
 pub fn nth(payload: &[u8], n: usize) -> NthAnswer {
     // SAFETY: as in `list`.
     unsafe { gdl90_nth(payload.as_ptr(), payload.len(), n) }
 }
 
-/// Adds an information frame behind the others; answers the number: 7, 11, 12,
-/// 8, 9.
+/// Adds an information frame behind the others; answers the number: 7, 11, 8, 9.
 #[inline]
 pub fn add(payload: &mut [u8], kind: u8, data: &[u8]) -> u8 {
     let (to, from) = (payload.as_mut_ptr(), data.as_ptr());

@@ -37,8 +37,8 @@ impl InformationFrame<'_> {
 /// # Errors
 ///
 /// [`Error::WrongLength`] unless the payload has 432 bytes;
-/// [`Error::PastTheData`] or [`Error::InformationFrameTooLong`] if one frame,
-/// whichever, is bad.
+/// [`Error::PastTheData`] if one frame, whichever, is longer than the application
+/// data behind its header.
 ///
 /// ```
 /// use gdl90::{add_information_frame, information_frames, PAYLOAD_LENGTH};

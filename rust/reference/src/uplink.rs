@@ -22,7 +22,6 @@ pub const VALID: u8 = 1 << 5;
 /// The numbers of RULES 'Numbers'.
 pub const NO_ROOM: u8 = 9;
 pub const PAST_THE_DATA: u8 = 11;
-pub const FRAME_TOO_LONG: u8 = 12;
 pub const NO_SUCH_FRAME: u8 = 13;
 
 #[derive(Debug, PartialEq, Eq, Clone)]
@@ -33,7 +32,7 @@ pub struct Frame {
     pub data: Range<usize>,
 }
 
-/// The payload's frames in order. Checks 7, then 11 and 12 at each header
+/// The payload's frames in order. Checks 7, then 11 at each header
 /// (RULES 'Uplink payloads').
 pub fn list(payload: &[u8]) -> Result<Vec<Frame>, u8> {
     let mut frames = Vec::new();
@@ -113,10 +112,6 @@ fn frame_at(payload: &[u8], at: usize) -> Result<Option<Frame>, u8> {
     }
     if at + FRAME_HEADER_LENGTH + length > DATA_LENGTH {
         return Err(PAST_THE_DATA);
-    }
-    // RULES 'Numbers' has it, but what is so long was refused with 11.
-    if length > FRAME_DATA_MAX {
-        return Err(FRAME_TOO_LONG);
     }
     let start = HEADER_LENGTH + at + FRAME_HEADER_LENGTH;
     Ok(Some(Frame {

@@ -3,7 +3,7 @@
 use Prim.Native.Nat.{_-_}
 use native.Mathlib.Omega.{arith}
 use borrow.Author.Needs.{needs}
-use Rattle.uplink.proofs.Scanning.{Reached, not-432, not-valid, start, at-end, runs-past, too-long, goes-on, at-the-end}
+use Rattle.uplink.proofs.Scanning.{Reached, not-432, not-valid, start, at-end, runs-past, goes-on, at-the-end}
 use Rattle.uplink.proofs.scan.Statement.{statement}
 use Rattle.uplink.proofs.scan.Tie as tie
 
@@ -62,12 +62,6 @@ returns-4 c =
     let l = h .before .before .before in
     runs-past _ _ (l .before .loop .inv) (l .loop-test .taken) (h .header2 .result) (h .header2 .ensures) (c .before .if3 .left) (omega arith)
 
-returns-5 : tie.Need-returns-5 Inv-loop μ-loop
-returns-5 c =
-    let h = c .before .before .before in
-    let l = h .before .before .before in
-    too-long _ _ (l .before .loop .inv) (l .loop-test .taken) (h .header2 .result) (h .header2 .ensures) (omega arith) (omega arith)
-
 kept-requires : tie.Need-kept-requires Inv-loop μ-loop
 kept-requires c κs = search needs
 
@@ -85,12 +79,12 @@ loop-less c = omega arith
 
 loop-again : tie.Need-loop-again Inv-loop μ-loop
 loop-again c =
-    let h = c .before .before .before .before in
+    let h = c .before .before .before in
     let l = h .before .before .before in
-    goes-on _ _ (l .before .loop .inv) (l .loop-test .taken) (h .header2 .result) (h .header2 .ensures) (c .before .before .before .if3 .left) (omega arith) (omega arith) _ (c .kept .ensures)
+    goes-on _ _ (l .before .loop .inv) (l .loop-test .taken) (h .header2 .result) (h .header2 .ensures) (c .before .before .if3 .left) (omega arith) _ (c .kept .ensures)
 
-returns-6 : tie.Need-returns-6 Inv-loop μ-loop
-returns-6 c = at-the-end _ _ (c .before .loop .inv) (omega arith)
+returns-5 : tie.Need-returns-5 Inv-loop μ-loop
+returns-5 c = at-the-end _ _ (c .before .loop .inv) (omega arith)
 
 pub scan-spec : {M : Type 1} → statement M
 scan-spec =
@@ -111,11 +105,10 @@ scan-spec =
     returns-3
     sub-if4
     returns-4
-    returns-5
     kept-requires
     add-count
     add-at
     add-at-2
     loop-less
     loop-again
-    returns-6)
+    returns-5)

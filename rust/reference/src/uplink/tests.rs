@@ -116,7 +116,7 @@ fn headers_of_01() {
     assert_eq!(list(&valid(&[0xD3, 0x80])), Err(PAST_THE_DATA));
 }
 
-/// All nine bits. 12 is never given: a length over 422 runs past the data.
+/// All nine bits: a length over 422 runs past the data.
 #[test]
 fn every_length() {
     for length in 0..=511 {
