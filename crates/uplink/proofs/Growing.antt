@@ -28,7 +28,7 @@ grows-none at xs =
 
 grows : (at : ℕ) (xs : List ℕ) → Grows at xs (walk at 0 xs)
 unfolding Grows framesBefore
-grows = every-walk Grows grows-none (λ at xs. tt) front
+grows = every-walk Grows grows-none (λ at a b xs l. tt) front
   where
     front : (at a b : ℕ) (xs : List ℕ) (w : Frames) → 0 < lengthIn a b → lengthIn a b ≤ length xs
         → Grows (at + (lengthIn a b + 2)) (drop (lengthIn a b) xs) w → Grows at (a ∷ b ∷ xs) (framesBefore (headed at a b ∷ []) w)

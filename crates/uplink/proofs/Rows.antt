@@ -33,7 +33,7 @@ Within at xs (refused k) = Unit {0}
 
 within : (at : ℕ) (xs : List ℕ) → Within at xs (walk at 0 xs)
 unfolding Within InRow framesBefore
-within = every-walk Within (λ at xs. (refl, omega arith)) (λ at xs. tt) front
+within = every-walk Within (λ at xs. (refl, omega arith)) (λ at a b xs l. tt) front
   where
     front : (at a b : ℕ) (xs : List ℕ) (w : Frames) → 0 < lengthIn a b → lengthIn a b ≤ length xs
         → Within (at + (lengthIn a b + 2)) (drop (lengthIn a b) xs) w → Within at (a ∷ b ∷ xs) (framesBefore (headed at a b ∷ []) w)

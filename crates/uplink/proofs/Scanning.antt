@@ -23,6 +23,13 @@ one-more [] f (suc n) = rw eqb·zero-suc
 one-more (g ∷ fs) f zero = rw eqb·suc-zero
 one-more (g ∷ fs) f (suc n) = rw eqb·suc-suc (one-more fs f n)
 
+-- the two bytes of a header, and what stands behind them
+pub two : (p : List ℕ) (at : ℕ) → length p ≡ 432 → at < 423 → drop (at + 8) p ≡ getD p (at + 8) 0 ∷ getD p (at + 9) 0 ∷ drop (at + 10) p
+two p at size room =
+    let a : suc (at + 8) ≡ at + 9 = omega arith in
+    let b : suc (at + 9) ≡ at + 10 = omega arith in
+    rw (drop-cons p (at + 8) 0 (omega arith), a, drop-cons p (at + 9) 0 (omega arith), b)
+
 module _ (p : List ℕ) (n : ℕ) where
   pub not-432 : (length p ≡ 432 → ⊥) → Refused 7 ≡ scanned n (payloadFrames p)
   unfolding scanned payloadFrames
@@ -63,22 +70,19 @@ module _ (p : List ℕ) (n : ℕ) where
     at-the-end h = stops (short at _ (omega (arith, length-drop (at + 8) p)))
 
     module _ (room : at < 423) where
-      two : drop (at + 8) p ≡ getD p (at + 8) 0 ∷ getD p (at + 9) 0 ∷ drop (at + 10) p
-      two =
-          let a : suc (at + 8) ≡ at + 9 = omega arith in
-          let b : suc (at + 9) ≡ at + 10 = omega arith in
-          rw (drop-cons p (at + 8) 0 (omega (arith, c .size)), a, drop-cons p (at + 9) 0 (omega (arith, c .size)), b)
+      header : drop (at + 8) p ≡ getD p (at + 8) 0 ∷ getD p (at + 9) 0 ∷ drop (at + 10) p
+      header = two p at (c .size) room
 
       left : length (drop (at + 10) p) ≡ 422 - at
       left = omega (arith, length-drop (at + 10) p, c .size)
 
       module _ (f : Frame) (is : f ≡ headed at (getD p (at + 8) 0) (getD p (at + 9) 0)) where
         pub at-end : f .length ≡ 0 → Listed count at frame ≡ scanned n (payloadFrames p)
-        at-end z = stops (rw two (ended at _ _ _ f is z))
+        at-end z = stops (rw header (ended at _ _ _ f is z))
 
         pub refused-past : (f .length ≡ 0 → ⊥) → 422 - at < f .length → payloadFrames p ≡ refused 11
         unfolding framesBefore
-        refused-past z l = rw (c .rest, two, past at _ _ (drop (at + 10) p) f is z (omega (arith, left)))
+        refused-past z l = rw (c .rest, header, past at _ _ (drop (at + 10) p) f is z (omega (arith, left)))
 
         pub runs-past : (f .length ≡ 0 → ⊥) → 422 - at < f .length → Refused 11 ≡ scanned n (payloadFrames p)
         unfolding scanned
@@ -89,7 +93,7 @@ module _ (p : List ℕ) (n : ℕ) where
         goes-on z l g k =
             let e : at + 10 + f .length ≡ at + (f .length + 2) + 8 = omega arith in
             let w : walk at 0 (drop (at + 8) p) ≡ framesBefore (f ∷ []) (walk (at + (f .length + 2)) 0 (drop (at + (f .length + 2) + 8) p)) =
-            rw two (more at _ _ _ f is z (omega (arith, left)) ∙ rw (drop-drop, e)) in
+            rw header (more at _ _ _ f is z (omega (arith, left)) ∙ rw (drop-drop, e)) in
             record {
               size = c .size;
               room = omega arith;

@@ -8,7 +8,7 @@ use native.Mathlib.Omega.{arith}
 use native.Mathlib.Nat.{add-zero}
 use lib.Dec.{eqb, ltb}
 use lib.ListN.{length, drop}
-use borrow.Author.Tests.{eq-eqb, ne-eqb, lt-ltb, le-ltb, eqb-true, eqb-false, ltb-false}
+use borrow.Author.Tests.{eq-eqb, ne-eqb, lt-ltb, le-ltb, eqb-true, eqb-false, ltb-true, ltb-false}
 use Rattle.uplink.specs.declared.Frame.{Frame}
 use Rattle.uplink.specs.Frames.{lengthIn, headed}
 use Rattle.uplink.specs.Walk.{Frames, listed, refused, framesBefore, walk, validBit, payloadFrames}
@@ -64,7 +64,7 @@ module _ (at a b : ℕ) (xs : List ℕ) (f : Frame) (is : f ≡ headed at a b) w
 -- what holds of a list that ends, of 11, and of a list with one frame more at its front, holds of every walk
 module _ (P : ℕ → List ℕ → Frames → Type 0)
     (end : (at : ℕ) (xs : List ℕ) → P at xs (listed [] at))
-    (eleven : (at : ℕ) (xs : List ℕ) → P at xs (refused 11))
+    (eleven : (at a b : ℕ) (xs : List ℕ) → length xs < lengthIn a b → P at (a ∷ b ∷ xs) (refused 11))
     (front : (at a b : ℕ) (xs : List ℕ) (w : Frames) → 0 < lengthIn a b → lengthIn a b ≤ length xs
     → P (at + (lengthIn a b + 2)) (drop (lengthIn a b) xs) w → P at (a ∷ b ∷ xs) (framesBefore (headed at a b ∷ []) w)) where
   every : (at skip : ℕ) (xs : List ℕ) → skip ≤ length xs → P (at + skip) (drop skip xs) (walk at skip xs)
@@ -81,7 +81,7 @@ module _ (P : ℕ → List ℕ → Frames → Type 0)
           → (lengthIn a b ≤ length xs → P (suc (suc at) + lengthIn a b) (drop (lengthIn a b) xs) (walk (suc (suc at)) (lengthIn a b) xs))
           → P at (a ∷ b ∷ xs) (cond t (listed [] at) (cond u (refused 11) (framesBefore (headed at a b ∷ []) (walk (suc (suc at)) (lengthIn a b) xs))))
       go true e u f ih = end at (a ∷ b ∷ xs)
-      go false e true f ih = eleven at (a ∷ b ∷ xs)
+      go false e true f ih = eleven at a b xs (ltb-true (length xs) (lengthIn a b) f)
       go false e false f ih =
           let l = ltb-false (length xs) (lengthIn a b) f in
           let s : suc (suc at) + lengthIn a b ≡ at + (lengthIn a b + 2) = omega arith in

@@ -29,7 +29,19 @@ pub data Starts (p : List ℕ) : ℕ → Type 0 where
   first : Starts p 0
   next : {at : ℕ} → Starts p at → 0 < lengthAt p at → at + (lengthAt p at + 2) ≤ 422 → Starts p (at + (lengthAt p at + 2))
 
--- a length over 422 is answered 11, wherever a frame starts: its header and its data need more than the 424 bytes
+-- a frame starts somewhere that is longer, with its header, than what is left of the 424 bytes
+pub record RunsPast (p : List ℕ) : Type 0 where
+  pub at : ℕ
+  pub starts : Starts p at
+  pub past : 424 < at + (lengthAt p at + 2)
+
+-- 11 is given exactly then
+abbrev pub PastIs11 : Type 0
+PastIs11 =
+    (p : List ℕ) → length p ≡ 432 → validBit p ≡ 1
+    → (RunsPast p → payloadFrames p ≡ refused 11) × (payloadFrames p ≡ refused 11 → RunsPast p)
+
+-- so a length over 422 is answered 11, wherever a frame starts: its header and its data need more than the 424 bytes
 abbrev pub Over422Is11 : Type 0
 Over422Is11 =
     (p : List ℕ) (at : ℕ) → length p ≡ 432 → validBit p ≡ 1 → Starts p at → 422 < lengthAt p at → payloadFrames p ≡ refused 11
