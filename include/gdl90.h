@@ -99,7 +99,7 @@ enum gdl90_mark {
 struct gdl90_heartbeat {
     uint8_t status1;
     uint8_t status2;         /* bits 6 to 0, 0 to 127 */
-    uint32_t time;           /* seconds since 0000Z, 0 to 86,399 */
+    uint32_t time;           /* seconds since 0000Z, 0 to 86,400; the last is the leap second of a day that has one, 23:59:60 */
     uint8_t uplinks;         /* received in the last second, 0 to 31 */
     uint8_t reserved;        /* 0 or 1 */
     uint16_t basic_and_long; /* received in the last second, 0 to 1,023 */

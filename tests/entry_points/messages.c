@@ -54,8 +54,8 @@ static void check_heartbeat(void)
 
     v = heartbeat(0x81, 0x41, 53467, 1, 0, 2); /* value 1 of RULES 'Values' */
     CASE(both_ways(&HEARTBEAT, "00 81 41 DBD0 0802", &v));
-    v = heartbeat(0x01, 0x00, 86399, 4, 0, 567); /* value 7 of RULES 'Values'; the counts of 001 §3.1.4 */
-    CASE(both_ways(&HEARTBEAT, "00 01 80 7F51 2237", &v));
+    v = heartbeat(0x01, 0x00, 86400, 4, 0, 567); /* value 7 of RULES 'Values'; the counts of 001 §3.1.4 */
+    CASE(both_ways(&HEARTBEAT, "00 01 80 8051 2237", &v));
     v = heartbeat(0xA1, 0x12, 0x12345, 0x16, 1, 0x2B7);
     CASE(both_ways(&HEARTBEAT, "00 A1 92 4523 B6B7", &v));
     v = heartbeat(0xFF, 0x7F, 0xFFFF, 31, 1, 1023);
@@ -64,11 +64,11 @@ static void check_heartbeat(void)
     CASE(both_ways(&HEARTBEAT, "00 00 80 0000 0400", &v));
     v = heartbeat(0, 0, 0, 0, 0, 0);
     CASE(both_ways(&HEARTBEAT, "00 00 00 0000 0000", &v));
-    CASE(refused(&HEARTBEAT, "00 01 80 8051 2237")); /* 86,400 */
+    CASE(refused(&HEARTBEAT, "00 01 80 8151 2237")); /* 86,401 */
     CASE(refused(&HEARTBEAT, "00 01 80 FFFF 0000"));
     v = heartbeat(1, 0x80, 1, 1, 1, 1);
     CASE(unwritten(&HEARTBEAT, &v));
-    v = heartbeat(1, 1, 86400, 1, 1, 1);
+    v = heartbeat(1, 1, 86401, 1, 1, 1);
     CASE(unwritten(&HEARTBEAT, &v));
     v = heartbeat(1, 1, UINT32_MAX, 1, 1, 1);
     CASE(unwritten(&HEARTBEAT, &v));

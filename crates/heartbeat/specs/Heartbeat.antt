@@ -14,7 +14,7 @@ use Rattle.message_types.specs.declared.Reading.the-variants.{Message, Refused}
 
 -- the last second of a day
 abbrev pub lastSecond : ℕ
-lastSecond = 86399
+lastSecond = 86400
 
 -- §3.1.3: bit 16 is bit 7 of status byte 2; the others are two bytes, low first
 abbrev pub timeOf : ℕ → ℕ → ℕ → ℕ

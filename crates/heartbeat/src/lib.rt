@@ -7,7 +7,7 @@ use message_types::Heartbeat;
 use message_types::HeartbeatRead;
 
 // The last second of a day (RULES 'Heartbeat').
-const LAST_SECOND: u32 = 86399;
+const LAST_SECOND: u32 = 86400;
 
 pub fn read_heartbeat(message: &[u8]) -> HeartbeatRead
     ensures { λ r. ⌜ r ≡ heartbeatRead (now (message .entry)) ⌝ }

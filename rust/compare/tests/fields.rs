@@ -63,7 +63,7 @@ fn heartbeats() {
     check(raw::Heartbeat {
         status1: 0xFF,
         status2: 0x7F,
-        time: 86_399,
+        time: 86_400,
         uplinks: 31,
         reserved: 0,
         basic_and_long: 1_023,

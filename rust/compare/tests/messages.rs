@@ -295,6 +295,27 @@ fn every_number_in_a_heartbeat_agrees() {
     }
 }
 
+/// Read and written: 8 from 86,401 on (RULES 'Heartbeat').
+#[test]
+fn every_time_agrees() {
+    let Ok(Message::Heartbeat(example)) = reference::messages::read(&HEARTBEAT) else {
+        panic!("no heartbeat");
+    };
+    // 17 bits of the message, 32 of the value.
+    for time in (0..1 << 17).chain([1 << 17, (1 << 17) + 86_400, 1 << 31, u32::MAX]) {
+        let number = (time > 86_400).then_some(OUT_OF_RANGE);
+        let value = Message::Heartbeat(Heartbeat { time, ..example });
+        assert_writings_agree(&value, ROOM);
+        assert_eq!(reference::messages::write(&value).err(), number, "{time}");
+        if time < 1 << 17 {
+            let [low, middle, high, _] = time.to_le_bytes();
+            let message = [0, 0x81, high << 7 | 0x41, low, middle, 0x08, 0x02];
+            assert_readings_agree(&message);
+            assert_eq!(read_as(HEARTBEAT_ID, &message).err(), number, "{time}");
+        }
+    }
+}
+
 #[test]
 fn every_number_in_a_report_agrees() {
     let Ok(Message::Traffic(example)) = reference::messages::read(&SALEM) else {

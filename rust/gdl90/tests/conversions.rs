@@ -140,7 +140,7 @@ fn refusals_of_reading() {
     assert_eq!(Message::read(&[1; 7]), Err(Error::UnknownId));
     assert_eq!(Message::read(&[0; 8]), Err(Error::WrongLength));
     assert_eq!(
-        Message::read(&[0, 0, 0x80, 0x80, 0x51, 0, 0]),
+        Message::read(&[0, 0, 0x80, 0x81, 0x51, 0, 0]), // 86,401
         Err(Error::OutOfRange)
     );
 }

@@ -15,16 +15,25 @@ fn status() {
     let heartbeat = Heartbeat {
         status_1: 0x81,
         status_2: 0x01,
-        time: 86_399,
+        time: 0,
         uplinks: 31,
         reserved: true,
         basic_and_long: 1_023,
     };
-    assert_words(
-        heartbeat,
-        "heartbeat at 23:59:59 UTC, status 0x81 0x01, \
-         received in the last second: 31 uplinks, 1023 basic and long",
-    );
+    for (time, clock) in [
+        (0, "00:00:00"),
+        (43_259, "12:00:59"),
+        (86_399, "23:59:59"),
+        (86_400, "23:59:60"),
+    ] {
+        assert_words(
+            Heartbeat { time, ..heartbeat },
+            &format!(
+                "heartbeat at {clock} UTC, status 0x81 0x01, \
+                 received in the last second: 31 uplinks, 1023 basic and long"
+            ),
+        );
+    }
     let initialization = Initialization {
         first: 0x0A,
         second: 0xFF,

@@ -11,7 +11,8 @@ pub struct Heartbeat {
     pub status_1: u8,
     /// Bits 6 to 0 of status byte 2, 001 §3.1.2.
     pub status_2: u8,
-    /// Seconds since midnight, UTC. Can be written: 0 to 86,399.
+    /// Seconds since midnight, UTC. Can be written: 0 to 86,400, which is the leap
+    /// second of a day that has one, 23:59:60.
     pub time: u32,
     /// Uplinks received in the last second. Can be written: 0 to 31.
     pub uplinks: u8,
@@ -59,7 +60,9 @@ impl TryFrom<raw::Heartbeat> for Heartbeat {
 
 impl fmt::Display for Heartbeat {
     fn fmt(&self, f: &mut fmt::Formatter<'_>) -> fmt::Result {
-        let (hours, minutes, seconds) = (self.time / 3600, self.time / 60 % 60, self.time % 60);
+        // A leap second is one more of the day's last minute.
+        let minute = (self.time / 60).min(24 * 60 - 1);
+        let (hours, minutes, seconds) = (minute / 60, minute % 60, self.time - minute * 60);
         write!(
             f,
             "heartbeat at {hours:02}:{minutes:02}:{seconds:02} UTC, status 0x{:02X} 0x{:02X}, \

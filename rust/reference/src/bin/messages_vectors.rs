@@ -190,7 +190,7 @@ fn add_lengths(records: &mut Records, random: &mut Xorshift) {
 /// Times, counts and single bits.
 fn add_heartbeats(records: &mut Records) {
     for time in [
-        0, 1, 255, 256, 65_535, 65_536, 86_398, 86_399, 86_400, 131_071,
+        0, 1, 255, 256, 65_535, 65_536, 86_398, 86_399, 86_400, 86_401, 131_071,
     ] {
         for status_2 in [0x00, 0x7F] {
             let [low, middle, high, _] = u32::to_le_bytes(time);

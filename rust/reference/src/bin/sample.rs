@@ -63,7 +63,7 @@ fn also(second: u16) -> Vec<u8> {
         6 => flipped(&ownship(second)),
         7 => not_listed(),
         8 => wrong_lengths(second),
-        _ => out_of_range(),
+        _ => borders(),
     }
 }
 
@@ -211,14 +211,18 @@ fn wrong_lengths(second: u16) -> Vec<u8> {
     [framed(&longer), framed(shorter)].concat()
 }
 
-/// 8: the second behind the last of a day, and a climb that is neither a number
-/// nor a mark (values 7 and 8 of RULES 'Values').
-fn out_of_range() -> Vec<u8> {
-    let mut late = HEARTBEAT;
-    late[2..5].copy_from_slice(&[0xC1, 0x80, 0x51]);
+/// 0: the last second of a day. 8: the one behind it, and a climb that is neither
+/// a number nor a mark (values 7 and 8 of RULES 'Values').
+fn borders() -> Vec<u8> {
+    let [last, late] = [86_400_u32, 86_401].map(|time| {
+        let [low, middle, high, _] = time.to_le_bytes();
+        let mut heartbeat = HEARTBEAT;
+        heartbeat[2..5].copy_from_slice(&[high << 7 | 0x41, low, middle]);
+        framed(&heartbeat)
+    });
     let mut steep = SALEM;
     steep[15..17].copy_from_slice(&[0xB1, 0xFF]);
-    [framed(&late), framed(&steep)].concat()
+    [last, late, framed(&steep)].concat()
 }
 
 #[cfg(test)]

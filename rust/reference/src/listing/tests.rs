@@ -45,7 +45,7 @@ fn no_answer_no_line() {
 #[test]
 fn every_answer() {
     let mut late = HEARTBEAT;
-    late[2..5].copy_from_slice(&[0xC1, 0x80, 0x51]);
+    late[2..5].copy_from_slice(&[0xC1, 0x81, 0x51]); // 86,401
     let stream = [
         &framed(&HEARTBEAT)[..],
         &[0x07, ESCAPE, 0x00, FLAG],

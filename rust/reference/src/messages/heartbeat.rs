@@ -2,8 +2,8 @@
 
 use super::fields::in_range;
 
-/// The last second of the day (RULES 'Heartbeat').
-pub const TIME_MAX: u32 = 86_399;
+/// The last second of a day, which a leap second adds to some (RULES 'Heartbeat').
+pub const TIME_MAX: u32 = 86_400;
 
 #[derive(Debug, PartialEq, Eq, Clone, Copy)]
 pub struct Heartbeat {
@@ -132,13 +132,13 @@ mod tests {
 
     /// Value 7 of RULES 'Values'.
     #[test]
-    fn last_second_of_the_day() {
+    fn last_second_of_a_day() {
         let last = Heartbeat {
-            time: 86_399,
+            time: 86_400,
             ..EXAMPLE
         };
-        check(last, [0x00, 0x81, 0xC1, 0x7F, 0x51, 0x08, 0x02]);
-        let next = [0x00, 0x81, 0xC1, 0x80, 0x51, 0x08, 0x02];
+        check(last, [0x00, 0x81, 0xC1, 0x80, 0x51, 0x08, 0x02]);
+        let next = [0x00, 0x81, 0xC1, 0x81, 0x51, 0x08, 0x02];
         assert_eq!(read(&next), Err(OUT_OF_RANGE));
     }
 
@@ -146,7 +146,7 @@ mod tests {
     fn too_wide() {
         for change in [
             |heartbeat: &mut Heartbeat| heartbeat.status_2 = 0x80,
-            |heartbeat: &mut Heartbeat| heartbeat.time = 86_400,
+            |heartbeat: &mut Heartbeat| heartbeat.time = 86_401,
             |heartbeat: &mut Heartbeat| heartbeat.time = u32::MAX,
             |heartbeat: &mut Heartbeat| heartbeat.uplinks = 32,
             |heartbeat: &mut Heartbeat| heartbeat.basic_and_long = 1024,
