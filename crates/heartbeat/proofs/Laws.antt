@@ -1,24 +1,27 @@
 -- Laws of the heartbeat.
 -- Assumes nothing.
-use mathlib.Core.Path.{_≡_, sym, ap, _∙_}
-use mathlib.Core.Bool.{true}
+use mathlib.Core.Path.{_≡_, refl, sym, ap, _∙_}
+use mathlib.Core.Bool.{Bool, true, false, cond, and-true}
 use Prim.Native.Nat.{ℕ, suc, _+_, _*_, _/_, _%_, _<_}
 use mathlib.Core.List.{_∷_}
 use native.Mathlib.Omega.{arith}
-use lib.Dec.{ltb, leb}
+use lib.Dec.{ltb}
 use lib.ListN.{getD}
-use borrow.Author.Tests.{ltb-true, leb-true}
+use borrow.Author.Tests.{ltb-true, leb-true, lt-ltb}
 use Rattle.numbers.proofs.Bytes.{byte-at, spread, upTo}
 use Rattle.numbers.proofs.Every.{both}
+use Rattle.codec.specs.Reading.{reading}
+use Rattle.units.specs.TimeOfDay.{lastSecond, isTimeOfDay}
 use Rattle.message_types.specs.declared.Heartbeat.{Heartbeat}
-use Rattle.heartbeat.specs.Heartbeat.{lastSecond, timeOf, countOf, heartbeatIn, goodHeartbeat, HeartbeatBits}
-use Rattle.heartbeat.specs.Claims.{HeartbeatWrittenRead, HeartbeatReadWritten}
+use Rattle.message_types.specs.declared.HeartbeatRead.{HeartbeatRead}
+use Rattle.heartbeat.specs.Heartbeat.{timeOf, countOf, heartbeatIn, goodHeartbeat, heartbeatRefused, HeartbeatBits}
+use Rattle.heartbeat.specs.Claims.{HeartbeatWrittenRead, HeartbeatReadWritten, LateIs8}
 
 -- a good heartbeat's fields are within their bits
 pub in-bits : (h : Heartbeat) → goodHeartbeat h ≡ true → HeartbeatBits h
 in-bits h g =
     let a = both (ltb (h .status2) 128) _ g in
-    let b = both (leb (h .time) lastSecond) _ (a .1) in
+    let b = both (isTimeOfDay (h .time)) _ (a .1) in
     let d = both (ltb (h .uplinks) 32) _ (b .1) in
     let e = both (ltb (h .reserved) 2) _ (d .1) in
     let day = leb-true (h .time) lastSecond (b .0) in
@@ -59,3 +62,15 @@ read-written m long bytes id =
     let t = time-back (b 2) (b 3) (b 4) in
     let n = counts-back (b 5) (b 6) in
     simp (t .0, t .1, t .2, n .0, n .1) (sym (spread 7 m long ∙ ap (λ (x : ℕ). x ∷ upTo 6 (λ i. getD m (suc i) 0)) id))
+
+-- every field but the time is in range, whatever the bytes
+pub late-is-8 : LateIs8
+unfolding heartbeatIn reading
+late-is-8 m bytes fit =
+    let b5 = byte-at m 5 bytes in
+    let b6 = byte-at m 6 bytes in
+    simp (fit, lt-ltb (getD m 2 0 % 128) 128 (omega arith), lt-ltb (getD m 5 0 / 8) 32 (omega arith), lt-ltb (getD m 5 0 / 4 % 2) 2 (omega arith), lt-ltb (countOf (getD m 5 0) (getD m 6 0)) 1024 (omega arith), and-true) (go (isTimeOfDay (heartbeatIn m .time)))
+  where
+    go : (t : Bool) → cond {A = HeartbeatRead} t (record { number = 0; heartbeat = heartbeatIn m }) (heartbeatRefused 8) .number ≡ cond t 0 8
+    go true = refl
+    go false = refl

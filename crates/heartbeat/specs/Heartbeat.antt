@@ -3,18 +3,15 @@
 use Prim.Native.Nat.{ℕ, _+_, _*_, _/_, _%_, _<_}
 use mathlib.Core.Bool.{Bool, _&&_}
 use mathlib.Core.List.{List, [], _∷_}
-use lib.Dec.{ltb, leb}
+use lib.Dec.{ltb}
 use lib.ListN.{getD}
 use Rattle.codec.specs.Reading.{reading}
+use Rattle.units.specs.TimeOfDay.{isTimeOfDay}
 use Rattle.message_types.specs.declared.Heartbeat.{Heartbeat}
 use Rattle.message_types.specs.declared.HeartbeatRead.{HeartbeatRead}
 use Rattle.message_types.specs.declared.Message.the-variants as kind
 use Rattle.message_types.specs.declared.Reading.{Reading}
 use Rattle.message_types.specs.declared.Reading.the-variants.{Message, Refused}
-
--- the last second of a day
-abbrev pub lastSecond : ℕ
-lastSecond = 86400
 
 -- §3.1.3: bit 16 is bit 7 of status byte 2; the others are two bytes, low first
 abbrev pub timeOf : ℕ → ℕ → ℕ → ℕ
@@ -35,11 +32,11 @@ heartbeatIn m = record {
   «basic_and_long» = countOf (getD m 5 0) (getD m 6 0);
 }
 
--- each field within its bits, and the time within the day
+-- each field within its bits, and the time a time of day
 abbrev pub goodHeartbeat : Heartbeat → Bool
 goodHeartbeat h =
     ltb (h .status2) 128
-    && (leb (h .time) lastSecond
+    && (isTimeOfDay (h .time)
     && (ltb (h .uplinks) 32 && (ltb (h .reserved) 2 && ltb (h .«basic_and_long») 1024)))
 
 abbrev pub heartbeatBytes : Heartbeat → List ℕ

@@ -6,9 +6,6 @@ ghost use Rattle.heartbeat.specs.Heartbeat.{timeOf, countOf, heartbeatIn
 use message_types::Heartbeat;
 use message_types::HeartbeatRead;
 
-// The last second of a day (RULES 'Heartbeat').
-const LAST_SECOND: u32 = 86400;
-
 pub fn read_heartbeat(message: &[u8]) -> HeartbeatRead
     ensures { λ r. ⌜ r ≡ heartbeatRead (now (message .entry)) ⌝ }
 {
@@ -54,11 +51,12 @@ pub fn write_heartbeat(heartbeat: Heartbeat, out: &mut [u8]) -> codec::Written
     }
 }
 
+// Each field within its bits, and the time a time of day.
 fn is_good_heartbeat(heartbeat: Heartbeat) -> bool
     ensures { λ r. ⌜ r ≡ goodHeartbeat heartbeat ⌝ }
 {
     (heartbeat.status2 < 128)
-        & ((heartbeat.time <= LAST_SECOND)
+        & (units::is_time_of_day(heartbeat.time)
             & ((heartbeat.uplinks < 32)
                 & ((heartbeat.reserved < 2) & (heartbeat.basic_and_long < 1024))))
 }

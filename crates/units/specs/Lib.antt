@@ -1,3 +1,4 @@
 pub mod Degrees
 pub mod Feet
+pub mod TimeOfDay
 pub mod Claims

@@ -1,8 +1,10 @@
-// The three units of altitude, kept apart, and steps of latitude and longitude in degrees (RULES 'Units', 'Degrees').
+// The three units of altitude, kept apart, steps of latitude and longitude in degrees, and times of day
+// (RULES 'Units', 'Degrees', 'Time of day').
 ghost use mathlib.Core.Path.{_≡_};
 ghost use lib.Signed.{mag};
 ghost use Rattle.units.specs.Degrees.{degrees, inDegrees, ExactlyAt};
 ghost use Rattle.units.specs.Feet.{pressureFeet, geometricFeet, terrainFeet};
+ghost use Rattle.units.specs.TimeOfDay.{isTimeOfDay};
 
 // Pressure altitude in steps of 25 feet, from 1,000 feet below zero on.
 #[repr(C)]
@@ -85,4 +87,14 @@ fn magnitude(n: i32) -> u32
     ensures { λ r. ⌜ r ≡ mag n ⌝ }
 {
     if n < 0 { (!n) as u32 } else { n as u32 }
+}
+
+// The last second of a day that ends with a leap second, 23:59:60.
+const LAST_SECOND: u32 = 86400;
+
+// Seconds since midnight, UTC. Whatever has a time of day has this bound.
+pub fn is_time_of_day(second: u32) -> bool
+    ensures { λ r. ⌜ r ≡ isTimeOfDay second ⌝ }
+{
+    second <= LAST_SECOND
 }

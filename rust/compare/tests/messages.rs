@@ -295,7 +295,7 @@ fn every_number_in_a_heartbeat_agrees() {
     }
 }
 
-/// Read and written: 8 from 86,401 on (RULES 'Heartbeat').
+/// Read and written: 8 from 86,401 on (RULES 'Time of day').
 #[test]
 fn every_time_agrees() {
     let Ok(Message::Heartbeat(example)) = reference::messages::read(&HEARTBEAT) else {

@@ -2,7 +2,7 @@
 
 use super::fields::in_range;
 
-/// The last second of a day, which a leap second adds to some (RULES 'Heartbeat').
+/// The last second of a day, which a leap second adds to some (RULES 'Time of day').
 pub const TIME_MAX: u32 = 86_400;
 
 #[derive(Debug, PartialEq, Eq, Clone, Copy)]
