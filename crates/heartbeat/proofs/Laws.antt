@@ -69,7 +69,11 @@ unfolding heartbeatIn reading
 late-is-8 m bytes fit =
     let b5 = byte-at m 5 bytes in
     let b6 = byte-at m 6 bytes in
-    simp (fit, lt-ltb (getD m 2 0 % 128) 128 (omega arith), lt-ltb (getD m 5 0 / 8) 32 (omega arith), lt-ltb (getD m 5 0 / 4 % 2) 2 (omega arith), lt-ltb (countOf (getD m 5 0) (getD m 6 0)) 1024 (omega arith), and-true) (go (isTimeOfDay (heartbeatIn m .time)))
+    let s = lt-ltb (getD m 2 0 % 128) 128 (omega arith) in
+    let u = lt-ltb (getD m 5 0 / 8) 32 (omega arith) in
+    let r = lt-ltb (getD m 5 0 / 4 % 2) 2 (omega arith) in
+    let n = lt-ltb (countOf (getD m 5 0) (getD m 6 0)) 1024 (omega arith) in
+    simp (fit, s, u, r, n, and-true) (go (isTimeOfDay (heartbeatIn m .time)))
   where
     go : (t : Bool) → cond {A = HeartbeatRead} t (record { number = 0; heartbeat = heartbeatIn m }) (heartbeatRefused 8) .number ≡ cond t 0 8
     go true = refl
