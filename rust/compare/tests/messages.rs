@@ -277,11 +277,17 @@ fn every_height_and_merit_agrees() {
     }
 }
 
-#[test]
-fn every_number_in_a_heartbeat_agrees() {
-    let Ok(Message::Heartbeat(example)) = reference::messages::read(&HEARTBEAT) else {
+/// That of 001 §2.2.4.
+fn heartbeat() -> Heartbeat {
+    let Ok(Message::Heartbeat(heartbeat)) = reference::messages::read(&HEARTBEAT) else {
         panic!("no heartbeat");
     };
+    heartbeat
+}
+
+#[test]
+fn every_number_in_a_heartbeat_agrees() {
+    let example = heartbeat();
     for number in 0..=u16::MAX {
         for change in [
             |heartbeat: &mut Heartbeat, number| heartbeat.status_2 = number as u8,
@@ -298,9 +304,7 @@ fn every_number_in_a_heartbeat_agrees() {
 /// Read and written: 8 from 86,401 on (RULES 'Time of day').
 #[test]
 fn every_time_agrees() {
-    let Ok(Message::Heartbeat(example)) = reference::messages::read(&HEARTBEAT) else {
-        panic!("no heartbeat");
-    };
+    let example = heartbeat();
     // 17 bits of the message, 32 of the value.
     for time in (0..1 << 17).chain([1 << 17, (1 << 17) + 86_400, 1 << 31, u32::MAX]) {
         let number = (time > 86_400).then_some(OUT_OF_RANGE);
