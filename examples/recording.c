@@ -130,38 +130,7 @@ static uint8_t print_report(const char *word, struct gdl90_report_read read)
     return 0;
 }
 
-static void print_payload(const uint8_t *payload, size_t length)
-{
-    printf(", payload ");
-    for (size_t i = 0; i < length; i++)
-        printf("%02X", payload[i]);
-    printf("\n");
-}
-
-static uint8_t print_basic(const uint8_t *message, size_t length)
-{
-    struct gdl90_basic_read read = gdl90_read_basic(message, length);
-
-    if (read.number == 0) {
-        print_number("basic pass-through: time of reception", read.basic.reception_mark, read.basic.reception * 80L, "ns");
-        print_payload(read.basic.payload, sizeof read.basic.payload);
-    }
-    return read.number;
-}
-
-static uint8_t print_long(const uint8_t *message, size_t length)
-{
-    struct gdl90_long_read read = gdl90_read_long(message, length);
-    struct gdl90_long l = read.pass_through;
-
-    if (read.number == 0) {
-        print_number("long pass-through: time of reception", l.reception_mark, l.reception * 80L, "ns");
-        print_payload(l.payload, sizeof l.payload);
-    }
-    return read.number;
-}
-
-/* gdl90_kind says which function reads the message, or 6. */
+/* gdl90_kind says which function reads the message, or 6, or 17 for a message of a retired kind. */
 static uint8_t print_kind(const uint8_t *message, size_t length)
 {
     struct gdl90_kind_answer kind = gdl90_kind(message, length);
@@ -176,8 +145,6 @@ static uint8_t print_kind(const uint8_t *message, size_t length)
     case GDL90_OWNSHIP: return print_report("ownship", gdl90_read_ownship(message, length));
     case GDL90_GEOMETRIC: return print_geometric(message, length);
     case GDL90_TRAFFIC: return print_report("traffic", gdl90_read_traffic(message, length));
-    case GDL90_BASIC: return print_basic(message, length);
-    case GDL90_LONG: return print_long(message, length);
     default: return 6; /* a kind that this program does not know */
     }
 }

@@ -10,7 +10,7 @@
      2  escape before the flag      8  a field outside its range                15  not a text's header
      3  more than 438 bytes         9  output too short                         16  not a text's character
      4  1 or 2 bytes               10  message not of 1 to 436 bytes
-     5  check sequence             11  a frame runs past the application data
+     5  check sequence             11  a frame runs past the application data  17  a retired id
    12 is not used, and will not be. Of several that apply, the one named first beside a function is given.
    With 0 only the bytes written change. With any other number every other field of the answer is 0, and memory lent for output is
    as it was. The one exception is gdl90_feed, which goes on behind a refused frame: `control` and `taken` always hold the state and
@@ -82,9 +82,7 @@ enum gdl90_id {
     GDL90_HEIGHT = 9,         /* 3 */
     GDL90_OWNSHIP = 10,       /* 28 */
     GDL90_GEOMETRIC = 11,     /* 5 */
-    GDL90_TRAFFIC = 20,       /* 28 */
-    GDL90_BASIC = 30,         /* 22 */
-    GDL90_LONG = 31           /* 38 */
+    GDL90_TRAFFIC = 20        /* 28 */
 };
 
 /* A mark says what the field behind it is. With a mark other than 0 the field is 0 when read, and is not looked at when written. A
@@ -164,18 +162,6 @@ struct gdl90_geometric {
     uint16_t merit;     /* metres, 0 to 32,766 but not 32,494, whose code is that of over */
 };
 
-struct gdl90_basic {
-    uint8_t reception_mark; /* none */
-    uint32_t reception;     /* as an uplink's */
-    uint8_t payload[18];
-};
-
-struct gdl90_long {
-    uint8_t reception_mark; /* none */
-    uint32_t reception;     /* as an uplink's */
-    uint8_t payload[34];
-};
-
 struct gdl90_heartbeat_read {
     uint8_t number;
     struct gdl90_heartbeat heartbeat;
@@ -200,25 +186,18 @@ struct gdl90_geometric_read {
     uint8_t number;
     struct gdl90_geometric geometric;
 };
-struct gdl90_basic_read {
-    uint8_t number;
-    struct gdl90_basic basic;
-};
-struct gdl90_long_read {
-    uint8_t number;
-    struct gdl90_long pass_through;
-};
 
 struct gdl90_kind_answer {
     uint8_t number;
     uint8_t id;
 };
 
-/* Which of the functions below reads the message: 6 if it is empty or its first byte is no kind's id, else 0 and the kind's id. */
+/* Which of the functions below reads the message: 6 if it is empty or its first byte is no kind's id; 17, whatever its length, if its
+   first byte is 30 or 31, the ids of basic and long pass-through, which are retired; else 0 and the kind's id. */
 struct gdl90_kind_answer gdl90_kind(const uint8_t *message, size_t message_len);
 
-/* A message of one kind: 6 if it is empty or its first byte is not the kind's id, 7 if its length is not the kind's, 8 for a field
-   outside its range, 0. The payload of an uplink is the 432 bytes from message + 4 on. */
+/* A message of one kind: 6 if it is empty or its first byte is not the kind's id, also a retired one; 7 if its length is not the
+   kind's; 8 for a field outside its range; 0. The payload of an uplink is the 432 bytes from message + 4 on. */
 struct gdl90_heartbeat_read gdl90_read_heartbeat(const uint8_t *message, size_t message_len);
 struct gdl90_initialization_read gdl90_read_initialization(const uint8_t *message, size_t message_len);
 struct gdl90_uplink_read gdl90_read_uplink(const uint8_t *message, size_t message_len);
@@ -226,8 +205,6 @@ struct gdl90_height_read gdl90_read_height(const uint8_t *message, size_t messag
 struct gdl90_report_read gdl90_read_ownship(const uint8_t *message, size_t message_len);
 struct gdl90_geometric_read gdl90_read_geometric(const uint8_t *message, size_t message_len);
 struct gdl90_report_read gdl90_read_traffic(const uint8_t *message, size_t message_len);
-struct gdl90_basic_read gdl90_read_basic(const uint8_t *message, size_t message_len);
-struct gdl90_long_read gdl90_read_long(const uint8_t *message, size_t message_len);
 
 struct gdl90_write_answer {
     uint8_t number; /* 7 for an uplink's payload not of 432 bytes, 8, 16 for a text's character, 9, 0 */
@@ -243,8 +220,6 @@ struct gdl90_write_answer gdl90_write_height(struct gdl90_height height, uint8_t
 struct gdl90_write_answer gdl90_write_ownship(struct gdl90_report report, uint8_t *out, size_t out_len);
 struct gdl90_write_answer gdl90_write_geometric(struct gdl90_geometric geometric, uint8_t *out, size_t out_len);
 struct gdl90_write_answer gdl90_write_traffic(struct gdl90_report report, uint8_t *out, size_t out_len);
-struct gdl90_write_answer gdl90_write_basic(struct gdl90_basic basic, uint8_t *out, size_t out_len);
-struct gdl90_write_answer gdl90_write_long(struct gdl90_long pass_through, uint8_t *out, size_t out_len);
 
 /* ---- the information frames of an uplink payload, 432 bytes */
 

@@ -88,16 +88,6 @@ static void print_messages(void)
     FIELD(gdl90_geometric, warning);
     FIELD(gdl90_geometric, merit_mark);
     FIELD(gdl90_geometric, merit);
-
-    STRUCT(gdl90_basic);
-    FIELD(gdl90_basic, reception_mark);
-    FIELD(gdl90_basic, reception);
-    FIELD(gdl90_basic, payload);
-
-    STRUCT(gdl90_long);
-    FIELD(gdl90_long, reception_mark);
-    FIELD(gdl90_long, reception);
-    FIELD(gdl90_long, payload);
 }
 
 static void print_answers(void)
@@ -129,14 +119,6 @@ static void print_answers(void)
     STRUCT(gdl90_geometric_read);
     FIELD(gdl90_geometric_read, number);
     FIELD(gdl90_geometric_read, geometric);
-
-    STRUCT(gdl90_basic_read);
-    FIELD(gdl90_basic_read, number);
-    FIELD(gdl90_basic_read, basic);
-
-    STRUCT(gdl90_long_read);
-    FIELD(gdl90_long_read, number);
-    FIELD(gdl90_long_read, pass_through);
 
     STRUCT(gdl90_write_answer);
     FIELD(gdl90_write_answer, number);

@@ -90,28 +90,6 @@ static void reads_geometric(const uint8_t *message, size_t length, uint8_t numbe
     CHECK_U16(read.geometric.merit, want->geometric.merit);
 }
 
-static void reads_basic(const uint8_t *message, size_t length, uint8_t number, const union value *want)
-{
-    struct gdl90_basic_read read = gdl90_read_basic(message, length);
-
-    CHECK_U8(read.number, number);
-    CHECK_U8(read.basic.reception_mark, want->basic.reception_mark);
-    CHECK_U32(read.basic.reception, want->basic.reception);
-    CHECK(sizeof read.basic.payload, 18);
-    CHECK_BYTES(read.basic.payload, want->basic.payload, 18);
-}
-
-static void reads_long(const uint8_t *message, size_t length, uint8_t number, const union value *want)
-{
-    struct gdl90_long_read read = gdl90_read_long(message, length);
-
-    CHECK_U8(read.number, number);
-    CHECK_U8(read.pass_through.reception_mark, want->pass_through.reception_mark);
-    CHECK_U32(read.pass_through.reception, want->pass_through.reception);
-    CHECK(sizeof read.pass_through.payload, 34);
-    CHECK_BYTES(read.pass_through.payload, want->pass_through.payload, 34);
-}
-
 static struct gdl90_write_answer write_heartbeat(const union value *value, uint8_t *out, size_t room)
 {
     return gdl90_write_heartbeat(value->heartbeat, out, room);
@@ -154,16 +132,6 @@ static struct gdl90_write_answer write_traffic(const union value *value, uint8_t
     return gdl90_write_traffic(value->report, out, room);
 }
 
-static struct gdl90_write_answer write_basic(const union value *value, uint8_t *out, size_t room)
-{
-    return gdl90_write_basic(value->basic, out, room);
-}
-
-static struct gdl90_write_answer write_long(const union value *value, uint8_t *out, size_t room)
-{
-    return gdl90_write_long(value->pass_through, out, room);
-}
-
 const struct kind HEARTBEAT = {0, reads_heartbeat, write_heartbeat};
 const struct kind INITIALIZATION = {2, reads_initialization, write_initialization};
 const struct kind UPLINK = {7, reads_uplink, write_uplink};
@@ -171,8 +139,6 @@ const struct kind HEIGHT = {9, reads_height, write_height};
 const struct kind OWNSHIP = {10, reads_ownship, write_ownship};
 const struct kind GEOMETRIC = {11, reads_geometric, write_geometric};
 const struct kind TRAFFIC = {20, reads_traffic, write_traffic};
-const struct kind BASIC = {30, reads_basic, write_basic};
-const struct kind LONG = {31, reads_long, write_long};
 
 /* ---- what is held of every kind */
 

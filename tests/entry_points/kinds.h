@@ -11,8 +11,6 @@ union value {
     struct gdl90_height height;
     struct gdl90_report report;
     struct gdl90_geometric geometric;
-    struct gdl90_basic basic;
-    struct gdl90_long pass_through;
 };
 
 /* How a kind is read, with every field held against what is wanted, and written. */
@@ -22,7 +20,7 @@ struct kind {
     struct gdl90_write_answer (*write)(const union value *value, uint8_t *out, size_t room);
 };
 
-extern const struct kind HEARTBEAT, INITIALIZATION, UPLINK, HEIGHT, OWNSHIP, GEOMETRIC, TRAFFIC, BASIC, LONG;
+extern const struct kind HEARTBEAT, INITIALIZATION, UPLINK, HEIGHT, OWNSHIP, GEOMETRIC, TRAFFIC;
 
 /* What an uplink is written with: payload_len of these bytes. */
 extern uint8_t payload[433];

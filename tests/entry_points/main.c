@@ -25,8 +25,6 @@ struct gdl90_height_read gdl90_read_height(const u8 *, size_t);
 struct gdl90_report_read gdl90_read_ownship(const u8 *, size_t);
 struct gdl90_geometric_read gdl90_read_geometric(const u8 *, size_t);
 struct gdl90_report_read gdl90_read_traffic(const u8 *, size_t);
-struct gdl90_basic_read gdl90_read_basic(const u8 *, size_t);
-struct gdl90_long_read gdl90_read_long(const u8 *, size_t);
 struct gdl90_write_answer gdl90_write_heartbeat(struct gdl90_heartbeat, u8 *, size_t);
 struct gdl90_write_answer gdl90_write_initialization(struct gdl90_initialization, u8 *, size_t);
 struct gdl90_write_answer gdl90_write_uplink(struct gdl90_uplink, const u8 *, size_t, u8 *, size_t);
@@ -34,8 +32,6 @@ struct gdl90_write_answer gdl90_write_height(struct gdl90_height, u8 *, size_t);
 struct gdl90_write_answer gdl90_write_ownship(struct gdl90_report, u8 *, size_t);
 struct gdl90_write_answer gdl90_write_geometric(struct gdl90_geometric, u8 *, size_t);
 struct gdl90_write_answer gdl90_write_traffic(struct gdl90_report, u8 *, size_t);
-struct gdl90_write_answer gdl90_write_basic(struct gdl90_basic, u8 *, size_t);
-struct gdl90_write_answer gdl90_write_long(struct gdl90_long, u8 *, size_t);
 struct gdl90_list_answer gdl90_list(const u8 *, size_t);
 struct gdl90_nth_answer gdl90_nth(const u8 *, size_t, size_t);
 u8 gdl90_add(u8 *, size_t, u8, const u8 *, size_t);
@@ -172,8 +168,6 @@ static void check_constants(void)
     CHECK(GDL90_OWNSHIP, 10);
     CHECK(GDL90_GEOMETRIC, 11);
     CHECK(GDL90_TRAFFIC, 20);
-    CHECK(GDL90_BASIC, 30);
-    CHECK(GDL90_LONG, 31);
     CHECK(GDL90_NUMBER, 0);
     CHECK(GDL90_NONE, 1);
     CHECK(GDL90_OVER, 2);
@@ -195,8 +189,6 @@ static void check_sizes(void)
     const struct gdl90_report_read report = {
         0, {0, 0, 0, 0, 0, 0, 0, {0}, 0, false, false, 0, 0, 0, 0, 0, 0, 0, 0, {0}, 0, 0}};
     const struct gdl90_geometric_read geometric = {0, {{0}, false, 0, 0}};
-    const struct gdl90_basic_read basic = {0, {0, 0, {0}}};
-    const struct gdl90_long_read pass_through = {0, {0, 0, {0}}};
     const struct gdl90_write_answer write = {0, 0};
     const struct gdl90_list_answer list = {0, 0, 0};
     const struct gdl90_nth_answer nth = {0, 0, 0, 0, 0};
@@ -222,10 +214,6 @@ static void check_sizes(void)
     CHECK(sizeof geometric, 8);
     CHECK(sizeof geometric.geometric, 6);
     CHECK(sizeof geometric.geometric.altitude, 2);
-    CHECK(sizeof basic, 32);
-    CHECK(sizeof basic.basic, 28);
-    CHECK(sizeof pass_through, 48);
-    CHECK(sizeof pass_through.pass_through, 44);
     CHECK(sizeof write, 2 * word);
     CHECK(sizeof list, 3 * word);
     CHECK(sizeof nth, 3 * word);

@@ -1,4 +1,4 @@
-/* The kind of a message, and seven kinds read and written (RULES 'Messages'; 001 §3). */
+/* The kind of a message, and five kinds read and written (RULES 'Messages', 'Retired ids'; 001 §3). */
 #include "kinds.h"
 
 /* ---- kinds, 001 Table 2: the id alone decides, at every kind's length and beyond */
@@ -15,7 +15,7 @@ static void kind_is(const uint8_t *message, size_t length, uint8_t number, uint8
 
 static void check_kinds(void)
 {
-    static const uint8_t ids[] = {0, 2, 7, 9, 10, 11, 20, 30, 31};
+    static const uint8_t ids[] = {0, 2, 7, 9, 10, 11, 20}, retired[] = {30, 31};
     static const size_t lengths[] = {1, 3, 5, 7, 22, 28, 38, 436, 437};
     uint8_t message[437];
     unsigned id;
@@ -25,10 +25,11 @@ static void check_kinds(void)
     CASE(kind_is(message, 0, 6, 0));
     for (id = 0; id < 256; id++) {
         bool known = memchr(ids, (int)id, sizeof ids) != NULL;
+        uint8_t number = known ? 0 : memchr(retired, (int)id, sizeof retired) != NULL ? 17 : 6;
 
         message[0] = (uint8_t)id;
         for (i = 0; i < sizeof lengths / sizeof lengths[0]; i++)
-            CASE(kind_is(message, lengths[i], known ? 0 : 6, known ? (uint8_t)id : 0));
+            CASE(kind_is(message, lengths[i], number, known ? (uint8_t)id : 0));
     }
 }
 
@@ -94,46 +95,43 @@ static void check_initialization(void)
     CASE(both_ways(&INITIALIZATION, "02 00 FF", &v));
 }
 
-/* ---- uplink, 001 §3.3, and pass-throughs, §3.6: the time of reception, low byte first */
+/* ---- uplink, 001 §3.3: the time of reception, low byte first */
 
 static const char RECEPTIONS[][7] = {"000000", "0C0B0A", "1FBCBE", "FFFFFF"}; /* read as 0, 0x0A0B0C, 12,499,999, none */
 static const uint32_t STEPS[] = {0, 0x0A0B0C, 12499999, 0};
 static const char NO_RECEPTIONS[][7] = {"20BCBE", "0000FF", "FEFFFF"};                      /* 12,500,000 and more */
 static const uint32_t NO_STEPS[] = {12500000, 0xFFFFFE, 0xFFFFFF, 0x1000000, UINT32_MAX}; /* none is no number */
-static const char BASIC_BYTES[] = "F1E2D3C4B5A69788 796A5B4C3D2E1F00 1B2C";
-static const char LONG_BYTES[] = "F1E2D3C4B5A69788 796A5B4C3D2E1F00 1B2C3D4E5F607182 93A4B5C6D7E8F90A 8899";
 
-/* A kind that starts with a time of reception, which stands in the value at `mark` and `steps`; the bytes behind it are given. */
-static void check_reception(const struct kind *kind, union value *v, uint8_t *mark, uint32_t *steps, const char *rest)
+static void check_reception(union value *v, const char *rest)
 {
     char hex[1000];
     size_t i;
 
     for (i = 0; i < 4; i++) {
-        snprintf(hex, sizeof hex, "%02X %s %s", kind->id, RECEPTIONS[i], rest);
-        *mark = i == 3 ? 1 : 0;
-        *steps = STEPS[i];
-        both_ways(kind, hex, v);
+        snprintf(hex, sizeof hex, "07 %s %s", RECEPTIONS[i], rest);
+        v->uplink.reception_mark = i == 3 ? 1 : 0;
+        v->uplink.reception = STEPS[i];
+        both_ways(&UPLINK, hex, v);
     }
-    *steps = UINT32_MAX; /* behind the mark it is not looked at */
-    written_as(kind, hex, v);
+    v->uplink.reception = UINT32_MAX; /* behind the mark it is not looked at */
+    written_as(&UPLINK, hex, v);
     for (i = 0; i < 3; i++) {
-        snprintf(hex, sizeof hex, "%02X %s %s", kind->id, NO_RECEPTIONS[i], rest);
-        refused(kind, hex);
+        snprintf(hex, sizeof hex, "07 %s %s", NO_RECEPTIONS[i], rest);
+        refused(&UPLINK, hex);
     }
-    *mark = 0;
+    v->uplink.reception_mark = 0;
     for (i = 0; i < 5; i++) {
-        *steps = NO_STEPS[i];
-        unwritten(kind, v);
+        v->uplink.reception = NO_STEPS[i];
+        unwritten(&UPLINK, v);
     }
-    *steps = 1;
+    v->uplink.reception = 1;
     for (i = 2; i < 256; i++) { /* no marks of it */
-        *mark = (uint8_t)i;
-        unwritten(kind, v);
+        v->uplink.reception_mark = (uint8_t)i;
+        unwritten(&UPLINK, v);
     }
 }
 
-static void check_receptions(void)
+static void check_uplink(void)
 {
     union value v = any();
     char rest[865];
@@ -143,7 +141,7 @@ static void check_receptions(void)
         payload[i] = (uint8_t)(i ^ i >> 3);
         snprintf(rest + 2 * i, 3, "%02X", payload[i]);
     }
-    CASE(check_reception(&UPLINK, &v, &v.uplink.reception_mark, &v.uplink.reception, rest));
+    CASE(check_reception(&v, rest));
     /* 7, for the payload, is checked before 8 and 9 */
     for (payload_len = 0; payload_len <= 433; payload_len += payload_len == 0 ? 431 : 2) {
         v.uplink.reception_mark = 0;
@@ -153,13 +151,6 @@ static void check_receptions(void)
         CASE(writes(&UPLINK, &v, 0, 7, NULL, 0));
     }
     payload_len = 432;
-
-    v = any();
-    from_hex(BASIC_BYTES, v.basic.payload);
-    CASE(check_reception(&BASIC, &v, &v.basic.reception_mark, &v.basic.reception, BASIC_BYTES));
-    v = any();
-    from_hex(LONG_BYTES, v.pass_through.payload);
-    CASE(check_reception(&LONG, &v, &v.pass_through.reception_mark, &v.pass_through.reception, LONG_BYTES));
 }
 
 /* ---- height above terrain, 001 §3.7, and geometric altitude, §3.8 */
@@ -251,7 +242,7 @@ void check_messages(void)
     check_kinds();
     check_heartbeat();
     check_initialization();
-    check_receptions();
+    check_uplink();
     check_height();
     check_geometric();
 }

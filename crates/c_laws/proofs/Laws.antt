@@ -6,16 +6,17 @@ use Prim.Native.Nat.{ℕ, _<_}
 use mathlib.Core.List.{List}
 use native.Mathlib.Omega.{arith}
 use lib.Dec.{eqb, leb}
-use lib.ListN.{length, drop, length-drop}
+use lib.ListN.{length, drop, getD, length-drop}
 use lib.Signed.{mag}
 use borrow.Author.Tests.{leb-true, le-leb, lt-leb, eqb-true, eq-eqb, ne-eqb}
 use Rattle.numbers.specs.Bytes.{AreBytes}
-use Rattle.numbers.proofs.Every.{both, chosen}
+use Rattle.numbers.proofs.Every.{both, also-false, chosen}
 use Rattle.codec.specs.Reading.{misfit, reading}
 use Rattle.codec.specs.declared.Written.the-variants.{Refused}
 use Rattle.codec.specs.Writing.{writtenNumber, writing}
-use Rattle.codec.proofs.Outcomes.{accepted-as}
+use Rattle.codec.proofs.Outcomes.{accepted-as, other-id}
 use Rattle.units.specs.declared.TerrainFeet.{TerrainFeet}
+use Rattle.message_types.specs.declared.UplinkRead.{UplinkRead}
 use Rattle.heartbeat.specs.Heartbeat.{heartbeatIn, goodHeartbeat, heartbeatBytes, heartbeatRefused}
 use Rattle.heartbeat.proofs.Laws as heartbeats
 use Rattle.initialization.specs.Initialization.{initializationIn, goodInitialization, initializationBytes, initializationRefused}
@@ -26,9 +27,7 @@ use Rattle.altitudes.specs.Claims.{TypedHeight}
 use Rattle.altitudes.proofs.Back as altitudes
 use Rattle.passing.specs.Reception.{goodReception}
 use Rattle.passing.specs.Uplink.{uplinkIn, goodUplink, uplinkBytes, uplinkRefused, writingUplink}
-use Rattle.passing.specs.PassThrough.{basicPassThroughIn, goodBasicPassThrough, basicPassThroughBytes, basicRefused, longPassThroughIn, goodLongPassThrough, longPassThroughBytes, longRefused}
 use Rattle.passing.proofs.Uplinks as uplinks
-use Rattle.passing.proofs.PassThroughs as pass-throughs
 use Rattle.report.specs.Bytes.{reportIn, reportBytes}
 use Rattle.report.specs.Reading.{goodReport, reportAccepted, reportRefused}
 use Rattle.report.proofs.Marked.{kind-code, kind-fits}
@@ -36,17 +35,16 @@ use Rattle.report.proofs.Laws as reports
 use Rattle.c_structs.specs.declared.FlatUplink.{FlatUplink}
 use Rattle.c_structs.specs.declared.FlatHeight.{FlatHeight}
 use Rattle.c_structs.specs.declared.FlatGeometric.{FlatGeometric}
-use Rattle.c_structs.specs.declared.FlatBasic.{FlatBasic}
-use Rattle.c_structs.specs.declared.FlatLong.{FlatLong}
-use Rattle.c_structs.specs.Flat.{heightFrom, receptionMark, receptionSteps, receptionFrom, flatUplink, uplinkFrom, flatHeight, terrainFrom, flatGeometric, geometricFrom, flatBasic, basicFrom, flatLong, longFrom}
+use Rattle.c_structs.specs.Flat.{heightFrom, receptionMark, receptionSteps, receptionFrom, flatUplink, uplinkFrom, flatHeight, terrainFrom, flatGeometric, geometricFrom}
 use Rattle.c_structs.proofs.Laws.{there-and-back}
 use Rattle.c_report.specs.declared.FlatReport.{FlatReport}
 use Rattle.c_report.specs.Flat.{trackNumber, flatReport, reportFrom}
 use Rattle.c_report.proofs.Laws.{report-there-and-back}
 use Rattle.messages.specs.Message.{kindOf, kindNumber}
+use Rattle.messages.proofs.Retired.{with-id, of-id}
 use Rattle.gdl90.specs.Messages.{kindAnswer, uplinkAnswer, AnsweredWriting, goodFlatReport}
-use Rattle.c_laws.specs.Zeroed.{beside, zeroedUplink, zeroedHeight, zeroedGeometric, zeroedBasic, zeroedLong, zeroedReport}
-use Rattle.c_laws.specs.Claims.{Any, RoundTrip, RoundTrips, UnknownIn, position, altitude, track, speed, climb, UnknownMarks}
+use Rattle.c_laws.specs.Zeroed.{beside, zeroedUplink, zeroedHeight, zeroedGeometric, zeroedReport}
+use Rattle.c_laws.specs.Claims.{Any, RoundTrip, RoundTrips, RetiredKind, UnknownIn, position, altitude, track, speed, climb, UnknownMarks}
 use Rattle.c_laws.proofs.Fields as fields
 use Rattle.c_laws.proofs.Trips.{named-by, trip, back, again, kind-trip, bad}
 
@@ -62,12 +60,6 @@ reception mark n g = fields.reception-back mark n (fields.within 1 mark (fields.
 -- each struct that writing accepts comes back with 0 beside its marks
 uplink-fine : (f : FlatUplink) → goodUplink (uplinkFrom f) ≡ true → flatUplink (uplinkFrom f) ≡ zeroedUplink f
 uplink-fine f g = let b = reception (f .«reception_mark») (f .reception) g in simp (b .0, b .1)
-
-basic-fine : (f : FlatBasic) → goodBasicPassThrough (basicFrom f) ≡ true → flatBasic (basicFrom f) ≡ zeroedBasic f
-basic-fine f g = let b = reception (f .«reception_mark») (f .reception) g in simp (b .0, b .1)
-
-long-fine : (f : FlatLong) → goodLongPassThrough (longFrom f) ≡ true → flatLong (longFrom f) ≡ zeroedLong f
-long-fine f g = let b = reception (f .«reception_mark») (f .reception) g in simp (b .0, b .1)
 
 height-fine : (f : FlatHeight) → goodTerrain (terrainFrom f) ≡ true → flatHeight (terrainFrom f) ≡ zeroedHeight f
 height-fine f g =
@@ -155,6 +147,9 @@ uplink-named m z =
     let r = accepted-as 7 436 uplinkIn goodUplink (λ y. record { number = 0; uplink = y }) uplinkRefused m (λ y. y .number) (λ k. refl) z in
     named-by 7 refl m (λ e. omega (arith, r .0 .1)) (r .0 .0)
 
+uplink-others : (m : List ℕ) → (getD m 0 0 ≡ 7 → ⊥) → uplinkAnswer m .number ≡ 6
+uplink-others m h = ap (λ (r : UplinkRead). r .number) (other-id 7 436 uplinkIn goodUplink (λ y. record { number = 0; uplink = y }) uplinkRefused m h)
+
 pub round-trips : RoundTrips
 unfolding misfit terrainBytes geometricBytes
 round-trips = record {
@@ -164,7 +159,7 @@ round-trips = record {
   initialization =
       kind-trip 2 3 initializationIn goodInitialization (λ i. record { number = 0; initialization = i }) initializationRefused (λ r. r .number) (λ k. refl) (λ i. refl) (λ r. r .initialization) (λ i. i) (λ i. refl)
       (λ i. i) initializationBytes goodInitialization (λ i. refl) (λ i g. (g, refl)) (λ i g. g) (refl, λ e. omega arith) (λ i. refl) (λ i t g. initializations.written-read i g) initializations.read-written;
-  uplink = trip (λ x. writingUplink (uplinkFrom (x .0)) (x .1)) good bytes accepts refuses (λ x t. uplink-back x) uplink-again uplink-named;
+  uplink = trip (λ x. writingUplink (uplinkFrom (x .0)) (x .1)) good bytes accepts refuses (λ x t. uplink-back x) uplink-again uplink-named uplink-others;
   height =
       kind-trip 9 3 terrainIn goodTerrain (λ h. record { number = 0; height = h }) heightRefused (λ r. r .number) (λ k. refl) (λ h. refl) (λ r. flatHeight (r .height)) flatHeight (λ h. refl)
       terrainFrom terrainBytes (λ f. goodTerrain (terrainFrom f)) (there-and-back .1) (λ f g. (g, height-fine f g)) (λ h g. ap goodTerrain (there-and-back .1 h) ∙ g) (refl, λ e. omega arith) (λ h. refl)
@@ -175,19 +170,10 @@ round-trips = record {
       geometricFrom geometricBytes (λ f. goodGeometric (geometricFrom f)) (there-and-back .2) (λ f g. (g, geometric-fine f g)) (λ y g. ap goodGeometric (there-and-back .2 y) ∙ g) (refl, λ e. omega arith) (λ y. refl)
       (λ f t g. altitudes.geometric-written-read (geometricFrom f) t g) altitudes.geometric-read-written;
   traffic = report-trip 20 refl;
-  basic =
-      kind-trip 30 22 basicPassThroughIn goodBasicPassThrough (λ p. record { number = 0; basic = p }) basicRefused (λ r. r .number) (λ k. refl) (λ p. refl) (λ r. flatBasic (r .basic)) flatBasic (λ p. refl)
-      basicFrom basicPassThroughBytes (λ f. goodBasicPassThrough (basicFrom f)) (there-and-back .3) (λ f g. (g, basic-fine f g)) (λ p g. ap goodBasicPassThrough (there-and-back .3 p) ∙ g) (refl, λ e. omega arith) (λ p. refl)
-      (λ f t g. pass-throughs.basic-written-read (basicFrom f) g) pass-throughs.basic-read-written;
-  long =
-      kind-trip 31 38 longPassThroughIn goodLongPassThrough (λ p. record { number = 0; long = p }) longRefused (λ r. r .number) (λ k. refl) (λ p. refl) (λ r. flatLong (r .long)) flatLong (λ p. refl)
-      longFrom longPassThroughBytes (λ f. goodLongPassThrough (longFrom f)) (there-and-back .4) (λ f g. (g, long-fine f g)) (λ p g. ap goodLongPassThrough (there-and-back .4 p) ∙ g) (refl, λ e. omega arith) (λ p. refl)
-      (λ f t g. pass-throughs.long-written-read (longFrom f) g) pass-throughs.long-read-written;
 }
 
-also-false : (b : Bool) → b && false ≡ false
-also-false true = refl
-also-false false = refl
+pub retired-kind : RetiredKind
+retired-kind m = (λ r. simp (of-id m r), with-id m)
 
 report-unknown : (f : FlatReport) → UnknownIn f → goodFlatReport f ≡ false
 unfolding goodReport
@@ -204,6 +190,4 @@ unknown-marks = record {
   height = λ f h. bad (fields.height-unknown (f .«height_mark») (f .height) h);
   report = λ f h. (bad (report-unknown f h), bad (report-unknown f h));
   geometric = λ f h. bad (fields.merit-unknown (f .«merit_mark») (f .merit) h);
-  basic = λ f h. bad (fields.reception-unknown (f .«reception_mark») (f .reception) h);
-  long = λ f h. bad (fields.reception-unknown (f .«reception_mark») (f .reception) h);
 }

@@ -14,7 +14,7 @@ use Rattle.numbers.specs.Lent.{written}
 use Rattle.codec.specs.declared.Written.{Written}
 use Rattle.codec.specs.declared.Written.the-variants.{Bytes, Refused}
 use Rattle.codec.specs.Reading.{misfit, reading}
-use Rattle.codec.proofs.Outcomes.{accepted-as}
+use Rattle.codec.proofs.Outcomes.{accepted-as, other-id}
 use Rattle.codec.specs.Writing.{writtenNumber, writtenOutput, writing}
 use Rattle.messages.specs.Message.{kindOf, kindIn, kindNumber}
 use Rattle.gdl90.specs.declared.WriteAnswer.{WriteAnswer}
@@ -54,13 +54,15 @@ module _ {id : ℕ} {X : Type 0} {Typed : X → Type 0} {number : List ℕ → �
     -- the bytes of a good value are read as it is, and what is read is a good value's bytes
     (back : (x : X) → Typed x → good x ≡ true → (number (bytes x) ≡ 0) × (value (bytes x) ≡ zeroed x))
     (again : (m : List ℕ) → AreBytes m → number m ≡ 0 → (good (value m) ≡ true) × (bytes (value m) ≡ m))
-    (named : (m : List ℕ) → number m ≡ 0 → kindAnswer m ≡ record { number = 0; id = id }) where
+    (named : (m : List ℕ) → number m ≡ 0 → kindAnswer m ≡ record { number = 0; id = id })
+    (others : (m : List ℕ) → (getD m 0 0 ≡ id → ⊥) → number m ≡ 6) where
   as-usual : {x : X} {out left : List ℕ} {a : WriteAnswer} → good x ≡ true → AnsweredBy (way x (length out)) (bytes x) out a left → AnsweredWriting true (bytes x) out a left
   as-usual {x} {out} g w = rw (accepts x (length out) g) at w
 
   pub trip : RoundTrip id X Typed (λ x out. AnsweredBy (way x (length out)) (bytes x) out) number value zeroed
   trip = record {
     named = named;
+    others = others;
     written-read = λ x out left a t w z. decided x out left a t w z (good x) refl;
     read-written = λ m out left a b z room w. let g = again m b z in let r = roomy (as-usual (g .0) w) (rw (g .1) room) in (rw (g .1) at r);
   }
@@ -75,10 +77,11 @@ pub usual-trip : {id : ℕ} {X : Type 0} {Typed : X → Type 0} {number : List �
     → ((x : X) → Typed x → good x ≡ true → (number (bytes x) ≡ 0) × (value (bytes x) ≡ zeroed x))
     → ((m : List ℕ) → AreBytes m → number m ≡ 0 → (good (value m) ≡ true) × (bytes (value m) ≡ m))
     → ((m : List ℕ) → number m ≡ 0 → kindAnswer m ≡ record { number = 0; id = id })
+    → ((m : List ℕ) → (getD m 0 0 ≡ id → ⊥) → number m ≡ 6)
     → RoundTrip id X Typed (λ x. AnsweredWriting (good x) (bytes x)) number value zeroed
 unfolding writing
-usual-trip good bytes back again named =
-    trip (λ x room. writing (good x) (bytes x) room) good bytes (λ x room g. ap (λ (t : Bool). writing t (bytes x) room) g) (λ x room g z. omega (arith, rw g at z)) back again named
+usual-trip good bytes back again named others =
+    trip (λ x room. writing (good x) (bytes x) room) good bytes (λ x room g. ap (λ (t : Bool). writing t (bytes x) room) g) (λ x room g z. omega (arith, rw g at z)) back again named others
 
 -- one kind's reading, whose answer tells of a refusal by its number: `held` is the value that bytes hold, `flat` its struct
 module _ {X Y R : Type 0} (id size : ℕ) (held : List ℕ → Y) (good : Y → Bool) (accepted : Y → R) (refusal : ℕ → R) (number : R → ℕ) (tells : (k : ℕ) → number (refusal k) ≡ k)
@@ -113,3 +116,4 @@ module _ {X Y R : Type 0} (id size : ℕ) (held : List ℕ → Y) (good : Y → 
       (λ m z.
       let r = accepted-as id size held good accepted refusal m number tells z in
       named-by id (known .0) m (λ e. known .1 (sym (r .0 .1) ∙ e)) (r .0 .0))
+      (λ m h. ap number (other-id id size held good accepted refusal m h) ∙ tells 6)

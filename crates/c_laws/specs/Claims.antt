@@ -1,9 +1,9 @@
--- Demand 2 (RULES 'Demands') over the functions that C and Rust call, and what they do with an unknown mark.
+-- Demand 2 (RULES 'Demands') over the functions that C and Rust call, and what they do with a retired id and an unknown mark.
 -- Assumes nothing.
 use mathlib.Core.Path.{_≡_}
 use Prim.Native.Nat.{ℕ, _≤_, _<_}
 use mathlib.Core.List.{List}
-use lib.ListN.{length, take, drop}
+use lib.ListN.{length, take, drop, getD}
 use lib.Signed.{mag}
 use Rattle.numbers.specs.Bytes.{AreBytes}
 use Rattle.numbers.specs.Lent.{written}
@@ -15,13 +15,12 @@ use Rattle.report.specs.Reading.{ownshipRead, trafficRead}
 use Rattle.c_structs.specs.declared.FlatUplink.{FlatUplink}
 use Rattle.c_structs.specs.declared.FlatHeight.{FlatHeight}
 use Rattle.c_structs.specs.declared.FlatGeometric.{FlatGeometric}
-use Rattle.c_structs.specs.declared.FlatBasic.{FlatBasic}
-use Rattle.c_structs.specs.declared.FlatLong.{FlatLong}
 use Rattle.c_report.specs.declared.FlatReport.{FlatReport}
+use Rattle.messages.specs.Claims.{Retired}
 use Rattle.gdl90.specs.declared.WriteAnswer.{WriteAnswer}
-use Rattle.gdl90.specs.Messages.{kindAnswer, uplinkAnswer, heightAnswer, geometricAnswer, basicAnswer, longAnswer}
-use Rattle.gdl90.specs.Messages.{WritesHeartbeat, WritesInitialization, WritesUplink, WritesHeight, WritesOwnship, WritesGeometric, WritesTraffic, WritesBasic, WritesLong}
-use Rattle.c_laws.specs.Zeroed.{zeroedUplink, zeroedHeight, zeroedGeometric, zeroedBasic, zeroedLong, zeroedReport}
+use Rattle.gdl90.specs.Messages.{kindAnswer, uplinkAnswer, heightAnswer, geometricAnswer}
+use Rattle.gdl90.specs.Messages.{WritesHeartbeat, WritesInitialization, WritesUplink, WritesHeight, WritesOwnship, WritesGeometric, WritesTraffic}
+use Rattle.c_laws.specs.Zeroed.{zeroedUplink, zeroedHeight, zeroedGeometric, zeroedReport}
 
 -- one kind, with its id: what its function for writing answers and leaves, the number and the value that its function for reading
 -- answers, and a value with 0 in each field beside a mark
@@ -29,6 +28,8 @@ pub record RoundTrip (id : ℕ) (X : Type 0) (Typed : X → Type 0) (Writes : X 
     (number : List ℕ → ℕ) (value : List ℕ → X) (zeroed : X → X) : Type 0 where
   -- `gdl90_kind` says that this function reads it
   pub named : (m : List ℕ) → number m ≡ 0 → kindAnswer m ≡ record { number = 0; id = id }
+  -- what has another id is answered 6, a retired one too
+  pub others : (m : List ℕ) → (getD m 0 0 ≡ id → ⊥) → number m ≡ 6
   -- what was written reads as that value, with 0 in each field beside a mark
   pub written-read : (x : X) (out left : List ℕ) (a : WriteAnswer) → Typed x → Writes x out a left → a .number ≡ 0
       → (number (take (a .length) left) ≡ 0) × (value (take (a .length) left) ≡ zeroed x)
@@ -55,8 +56,10 @@ pub record RoundTrips : Type 0 where
       RoundTrip 11 FlatGeometric (λ g. mag (g .altitude .steps) < 0x8000) WritesGeometric (λ m. geometricAnswer m .number)
       (λ m. geometricAnswer m .geometric) zeroedGeometric
   pub traffic : RoundTrip 20 FlatReport Any WritesTraffic (λ m. trafficRead m .number) (λ m. trafficRead m .report) zeroedReport
-  pub basic : RoundTrip 30 FlatBasic Any WritesBasic (λ m. basicAnswer m .number) (λ m. basicAnswer m .basic) zeroedBasic
-  pub long : RoundTrip 31 FlatLong Any WritesLong (λ m. longAnswer m .number) (λ m. longAnswer m .long) zeroedLong
+
+-- `gdl90_kind` answers 17 to a retired id (RULES 'Retired ids'), of whatever length, and to nothing else
+abbrev pub RetiredKind : Type 0
+RetiredKind = (m : List ℕ) → (Retired m → kindAnswer m ≡ record { number = 17; id = 0 }) × (kindAnswer m .number ≡ 17 → Retired m)
 
 -- writing is refused with 8, and nothing is written
 abbrev pub Refused8 : (List ℕ → WriteAnswer → List ℕ → Type 0) → Type 0
@@ -76,5 +79,3 @@ pub record UnknownMarks : Type 0 where
   pub height : (f : FlatHeight) → 1 < f .«height_mark» → Refused8 (WritesHeight f)
   pub report : (f : FlatReport) → UnknownIn f → Refused8 (WritesOwnship f) × Refused8 (WritesTraffic f)
   pub geometric : (f : FlatGeometric) → 2 < f .«merit_mark» → Refused8 (WritesGeometric f)
-  pub basic : (f : FlatBasic) → 1 < f .«reception_mark» → Refused8 (WritesBasic f)
-  pub long : (f : FlatLong) → 1 < f .«reception_mark» → Refused8 (WritesLong f)

@@ -7,8 +7,6 @@ use lib.IntN.{pos}
 use Rattle.c_structs.specs.declared.FlatUplink.{FlatUplink}
 use Rattle.c_structs.specs.declared.FlatHeight.{FlatHeight}
 use Rattle.c_structs.specs.declared.FlatGeometric.{FlatGeometric}
-use Rattle.c_structs.specs.declared.FlatBasic.{FlatBasic}
-use Rattle.c_structs.specs.declared.FlatLong.{FlatLong}
 use Rattle.c_report.specs.declared.FlatReport.{FlatReport}
 
 -- the field beside mark 0, which says that it is a number; zero beside any other
@@ -27,28 +25,6 @@ zeroedGeometric f = record {
   warning = f .warning;
   «merit_mark» = f .«merit_mark»;
   merit = beside (f .«merit_mark») 0 (f .merit);
-}
-
-abbrev pub zeroedBasic : FlatBasic → FlatBasic
-zeroedBasic f = record {
-  «reception_mark» = f .«reception_mark»;
-  reception = beside (f .«reception_mark») 0 (f .reception);
-  a = f .a;
-  b = f .b;
-  e = f .e;
-  f = f .f;
-}
-
-abbrev pub zeroedLong : FlatLong → FlatLong
-zeroedLong f = record {
-  «reception_mark» = f .«reception_mark»;
-  reception = beside (f .«reception_mark») 0 (f .reception);
-  a = f .a;
-  b = f .b;
-  c = f .c;
-  d = f .d;
-  e = f .e;
-  f = f .f;
 }
 
 abbrev pub zeroedReport : FlatReport → FlatReport

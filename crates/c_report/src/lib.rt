@@ -2,7 +2,7 @@
 ghost use mathlib.Core.Path.{_≡_};
 ghost use Rattle.c_report.specs.Flat.{positionFrom, altitudeFrom, trackNumber, trackFrom, speedFrom, climbFrom, reportFrom};
 use message_types::Altitude;
-use message_types::Bytes8;
+use message_types::CallSign;
 use message_types::Climb;
 use message_types::Position;
 use message_types::Report;
@@ -31,7 +31,7 @@ pub struct FlatReport {
     pub climb: i32,
     pub track: u8,
     pub emitter: u8,
-    pub call_sign: Bytes8,
+    pub call_sign: CallSign,
     pub priority: u8,
     pub spare: u8,
 }

@@ -32,6 +32,4 @@ there-and-back = (
   λ x. simp (receptions (x .reception)),
   λ x. simp (heights (x .height)),
   λ x. simp (merits (x .merit)),
-  λ x. simp (receptions (x .reception)),
-  λ x. simp (receptions (x .reception)),
 )

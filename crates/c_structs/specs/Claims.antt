@@ -4,14 +4,10 @@ use mathlib.Core.Path.{_≡_}
 use Rattle.message_types.specs.declared.Uplink.{Uplink}
 use Rattle.message_types.specs.declared.HeightAboveTerrain.{HeightAboveTerrain}
 use Rattle.message_types.specs.declared.GeometricAltitude.{GeometricAltitude}
-use Rattle.message_types.specs.declared.BasicPassThrough.{BasicPassThrough}
-use Rattle.message_types.specs.declared.LongPassThrough.{LongPassThrough}
-use Rattle.c_structs.specs.Flat.{flatUplink, uplinkFrom, flatHeight, terrainFrom, flatGeometric, geometricFrom, flatBasic, basicFrom, flatLong, longFrom}
+use Rattle.c_structs.specs.Flat.{flatUplink, uplinkFrom, flatHeight, terrainFrom, flatGeometric, geometricFrom}
 
 abbrev pub ThereAndBack : Type 0
 ThereAndBack =
     ((x : Uplink) → uplinkFrom (flatUplink x) ≡ x)
     × ((x : HeightAboveTerrain) → terrainFrom (flatHeight x) ≡ x)
     × ((x : GeometricAltitude) → geometricFrom (flatGeometric x) ≡ x)
-    × ((x : BasicPassThrough) → basicFrom (flatBasic x) ≡ x)
-    × ((x : LongPassThrough) → longFrom (flatLong x) ≡ x)

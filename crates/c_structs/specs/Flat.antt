@@ -16,13 +16,9 @@ use Rattle.message_types.specs.declared.Merit.the-variants as merit
 use Rattle.message_types.specs.declared.Uplink.{Uplink}
 use Rattle.message_types.specs.declared.HeightAboveTerrain.{HeightAboveTerrain}
 use Rattle.message_types.specs.declared.GeometricAltitude.{GeometricAltitude}
-use Rattle.message_types.specs.declared.BasicPassThrough.{BasicPassThrough}
-use Rattle.message_types.specs.declared.LongPassThrough.{LongPassThrough}
 use Rattle.c_structs.specs.declared.FlatUplink.{FlatUplink}
 use Rattle.c_structs.specs.declared.FlatHeight.{FlatHeight}
 use Rattle.c_structs.specs.declared.FlatGeometric.{FlatGeometric}
-use Rattle.c_structs.specs.declared.FlatBasic.{FlatBasic}
-use Rattle.c_structs.specs.declared.FlatLong.{FlatLong}
 
 -- the time of reception
 abbrev pub receptionMark : Reception → ℕ
@@ -87,39 +83,3 @@ flatGeometric g = record {
 
 abbrev pub geometricFrom : FlatGeometric → GeometricAltitude
 geometricFrom f = record { altitude = f .altitude; warning = f .warning; merit = meritFrom (f .«merit_mark») (f .merit) }
-
-abbrev pub flatBasic : BasicPassThrough → FlatBasic
-flatBasic p = record {
-  «reception_mark» = receptionMark (p .reception);
-  reception = receptionSteps (p .reception);
-  a = p .a;
-  b = p .b;
-  e = p .e;
-  f = p .f;
-}
-
-abbrev pub basicFrom : FlatBasic → BasicPassThrough
-basicFrom p = record { reception = receptionFrom (p .«reception_mark») (p .reception); a = p .a; b = p .b; e = p .e; f = p .f }
-
-abbrev pub flatLong : LongPassThrough → FlatLong
-flatLong p = record {
-  «reception_mark» = receptionMark (p .reception);
-  reception = receptionSteps (p .reception);
-  a = p .a;
-  b = p .b;
-  c = p .c;
-  d = p .d;
-  e = p .e;
-  f = p .f;
-}
-
-abbrev pub longFrom : FlatLong → LongPassThrough
-longFrom p = record {
-  reception = receptionFrom (p .«reception_mark») (p .reception);
-  a = p .a;
-  b = p .b;
-  c = p .c;
-  d = p .d;
-  e = p .e;
-  f = p .f;
-}

@@ -1,13 +1,10 @@
 // The typed messages but for reports as structs of numbers, for callers that know no enums, such as C's, there and back.
 ghost use mathlib.Core.Path.{_≡_};
-ghost use Rattle.c_structs.specs.Flat.{receptionMark, receptionSteps, receptionFrom, flatUplink, uplinkFrom, flatBasic, basicFrom, flatLong, longFrom};
+ghost use Rattle.c_structs.specs.Flat.{receptionMark, receptionSteps, receptionFrom, flatUplink, uplinkFrom};
 ghost use Rattle.c_structs.specs.Flat.{heightMark, heightFeet, heightFrom, flatHeight, terrainFrom, meritMark, meritMetres, meritFrom, flatGeometric, geometricFrom};
-use message_types::BasicPassThrough;
-use message_types::Bytes8;
 use message_types::GeometricAltitude;
 use message_types::Height;
 use message_types::HeightAboveTerrain;
-use message_types::LongPassThrough;
 use message_types::Merit;
 use message_types::Reception;
 use message_types::Uplink;
@@ -34,30 +31,6 @@ pub struct FlatGeometric {
     pub merit: u16,
 }
 
-// The payload's 18 bytes are a, b, e, f.
-#[repr(C)]
-pub struct FlatBasic {
-    pub reception_mark: u8,
-    pub reception: u32,
-    pub a: Bytes8,
-    pub b: Bytes8,
-    pub e: u8,
-    pub f: u8,
-}
-
-// The payload's 34 bytes are a, b, c, d, e, f.
-#[repr(C)]
-pub struct FlatLong {
-    pub reception_mark: u8,
-    pub reception: u32,
-    pub a: Bytes8,
-    pub b: Bytes8,
-    pub c: Bytes8,
-    pub d: Bytes8,
-    pub e: u8,
-    pub f: u8,
-}
-
 #[repr(C)]
 pub struct FlatUplinkRead {
     pub number: u8,
@@ -74,18 +47,6 @@ pub struct FlatHeightRead {
 pub struct FlatGeometricRead {
     pub number: u8,
     pub geometric: FlatGeometric,
-}
-
-#[repr(C)]
-pub struct FlatBasicRead {
-    pub number: u8,
-    pub basic: FlatBasic,
-}
-
-#[repr(C)]
-pub struct FlatLongRead {
-    pub number: u8,
-    pub long: FlatLong,
 }
 
 fn reception_mark(reception: Reception) -> u8
@@ -240,75 +201,5 @@ pub fn geometric_from(flat: FlatGeometric) -> GeometricAltitude
         altitude,
         warning: flat.warning,
         merit,
-    }
-}
-
-pub fn flat_basic(basic: BasicPassThrough) -> FlatBasic
-    ensures { λ r. ⌜ r ≡ flatBasic basic ⌝ }
-{
-    let reception = basic.reception;
-    let a = basic.a;
-    let b = basic.b;
-    FlatBasic {
-        reception_mark: reception_mark(reception),
-        reception: reception_steps(reception),
-        a,
-        b,
-        e: basic.e,
-        f: basic.f,
-    }
-}
-
-pub fn basic_from(flat: FlatBasic) -> BasicPassThrough
-    ensures { λ r. ⌜ r ≡ basicFrom flat ⌝ }
-{
-    let reception = reception_from(flat.reception_mark, flat.reception);
-    let a = flat.a;
-    let b = flat.b;
-    BasicPassThrough {
-        reception,
-        a,
-        b,
-        e: flat.e,
-        f: flat.f,
-    }
-}
-
-pub fn flat_long(long: LongPassThrough) -> FlatLong
-    ensures { λ r. ⌜ r ≡ flatLong long ⌝ }
-{
-    let reception = long.reception;
-    let a = long.a;
-    let b = long.b;
-    let c = long.c;
-    let d = long.d;
-    FlatLong {
-        reception_mark: reception_mark(reception),
-        reception: reception_steps(reception),
-        a,
-        b,
-        c,
-        d,
-        e: long.e,
-        f: long.f,
-    }
-}
-
-pub fn long_from(flat: FlatLong) -> LongPassThrough
-    ensures { λ r. ⌜ r ≡ longFrom flat ⌝ }
-{
-    let reception = reception_from(flat.reception_mark, flat.reception);
-    let a = flat.a;
-    let b = flat.b;
-    let c = flat.c;
-    let d = flat.d;
-    LongPassThrough {
-        reception,
-        a,
-        b,
-        c,
-        d,
-        e: flat.e,
-        f: flat.f,
     }
 }

@@ -9,7 +9,7 @@ use native.Mathlib.Numerals.{add-one}
 use lib.Dec.{eqb}
 use lib.ListN.{length, drop, getD, set, drop-of-length-le}
 use lib.Seq.{sets, drop-cons}
-use borrow.Author.Tests.{eqb-true, eqb-false, le-leb, lt-leb}
+use borrow.Author.Tests.{eqb-true, eqb-false, ne-eqb, le-leb, lt-leb}
 use Rattle.numbers.specs.Lent.{written}
 use Rattle.numbers.proofs.Storing.{from-first}
 use Rattle.codec.specs.declared.Written.{Written}
@@ -107,6 +107,15 @@ module _ {X R : Type 0} (id size : ℕ) (value : List ℕ → X) (good : X → B
       go true e = zero (value m) ∙ sym (eqb-true _ 0 e)
       go false e = tells _
 
+  -- another id is refused with 6
+  pub other-id : (getD m 0 0 ≡ id → ⊥) → reading id size value good accepted refusal m ≡ refusal 6
+  unfolding reading misfit
+  other-id h = simp (ne-eqb (getD m 0 0) id h) (go (eqb (length m) 0))
+    where
+      go : (s : Bool) → cond (eqb (cond s 6 6) 0) (cond (good (value m)) (accepted (value m)) (refusal 8)) (refusal (cond s 6 6)) ≡ refusal 6
+      go true = refl
+      go false = refl
+
   -- the tests apart
   abbrev pick : {S : Type 0} → (X → S) → (ℕ → S) → Bool → Bool → Bool → Bool → S
   pick taken left s t u v =
@@ -121,6 +130,20 @@ module _ {X R : Type 0} (id size : ℕ) (value : List ℕ → X) (good : X → B
       ap h e ∙ go (eqb (length m) 0) (eqb (getD m 0 0) id) (eqb (length m) size) (good (value m))
     where
       go : (s t u v : Bool) → h (pick accepted refusal s t u v) ≡ pick taken left s t u v
+      go true t u v = no-kind
+      go false false u v = no-kind
+      go false true false v = no-length
+      go false true true true = a (value m)
+      go false true true false = no-range
+
+  -- what holds of an accepted value and of 6, 7 and 8 holds of the answer
+  pub of-reading : (P : R → Type 0) → ((x : X) → P (accepted x)) → P (refusal 6) → P (refusal 7) → P (refusal 8)
+      → P (reading id size value good accepted refusal m)
+  unfolding reading misfit
+  of-reading P a no-kind no-length no-range =
+      go (eqb (length m) 0) (eqb (getD m 0 0) id) (eqb (length m) size) (good (value m))
+    where
+      go : (s t u v : Bool) → P (pick accepted refusal s t u v)
       go true t u v = no-kind
       go false false u v = no-kind
       go false true false v = no-length

@@ -14,7 +14,6 @@ use Rattle.initialization.specs.Initialization.{goodInitialization, initializat
 use Rattle.altitudes.specs.Height.{heightRead, goodTerrain, terrainBytes}
 use Rattle.altitudes.specs.Geometric.{geometricRead, goodGeometric, geometricBytes}
 use Rattle.passing.specs.Uplink.{uplinkRead, uplinkBytes, writingUplink}
-use Rattle.passing.specs.PassThrough.{basicRead, longRead, goodBasicPassThrough, basicPassThroughBytes, goodLongPassThrough, longPassThroughBytes}
 use Rattle.message_types.specs.declared.Heartbeat.{Heartbeat}
 use Rattle.message_types.specs.declared.Initialization.{Initialization}
 use Rattle.message_types.specs.declared.Ownship.{Ownship}
@@ -28,17 +27,13 @@ use Rattle.c_report.specs.declared.FlatReport.{FlatReport}
 use Rattle.c_structs.specs.declared.FlatUplink.{FlatUplink}
 use Rattle.c_structs.specs.declared.FlatHeight.{FlatHeight}
 use Rattle.c_structs.specs.declared.FlatGeometric.{FlatGeometric}
-use Rattle.c_structs.specs.declared.FlatBasic.{FlatBasic}
-use Rattle.c_structs.specs.declared.FlatLong.{FlatLong}
 use Rattle.c_structs.specs.declared.FlatUplinkRead.{FlatUplinkRead}
 use Rattle.c_structs.specs.declared.FlatHeightRead.{FlatHeightRead}
 use Rattle.c_structs.specs.declared.FlatGeometricRead.{FlatGeometricRead}
-use Rattle.c_structs.specs.declared.FlatBasicRead.{FlatBasicRead}
-use Rattle.c_structs.specs.declared.FlatLongRead.{FlatLongRead}
-use Rattle.c_structs.specs.Flat.{flatUplink, uplinkFrom, flatHeight, terrainFrom, flatGeometric, geometricFrom, flatBasic, basicFrom, flatLong, longFrom}
+use Rattle.c_structs.specs.Flat.{flatUplink, uplinkFrom, flatHeight, terrainFrom, flatGeometric, geometricFrom}
 use Rattle.c_report.specs.Flat.{reportFrom}
 
--- which kind a message is: 6, or its id, which is the first byte
+-- which kind a message is: 6, 17, or its id, which is the first byte
 abbrev pub kindAnswer : List ℕ → KindAnswer
 kindAnswer m = record { number = kindNumber (kindIn m); id = cond (eqb (kindNumber (kindIn m)) 0) (getD m 0 0) 0 }
 
@@ -50,12 +45,6 @@ heightAnswer m = record { number = heightRead m .number; height = flatHeight (he
 
 abbrev pub geometricAnswer : List ℕ → FlatGeometricRead
 geometricAnswer m = record { number = geometricRead m .number; geometric = flatGeometric (geometricRead m .geometric) }
-
-abbrev pub basicAnswer : List ℕ → FlatBasicRead
-basicAnswer m = record { number = basicRead m .number; basic = flatBasic (basicRead m .basic) }
-
-abbrev pub longAnswer : List ℕ → FlatLongRead
-longAnswer m = record { number = longRead m .number; long = flatLong (longRead m .long) }
 
 abbrev pub writeAnswer : Written → WriteAnswer
 writeAnswer w = record { number = writtenNumber w; length = writtenSize w }
@@ -83,12 +72,6 @@ WritesHeight h = AnsweredWriting (goodTerrain (terrainFrom h)) (terrainBytes (te
 
 abbrev pub WritesGeometric : FlatGeometric → List ℕ → WriteAnswer → List ℕ → Type 0
 WritesGeometric g = AnsweredWriting (goodGeometric (geometricFrom g)) (geometricBytes (geometricFrom g))
-
-abbrev pub WritesBasic : FlatBasic → List ℕ → WriteAnswer → List ℕ → Type 0
-WritesBasic b = AnsweredWriting (goodBasicPassThrough (basicFrom b)) (basicPassThroughBytes (basicFrom b))
-
-abbrev pub WritesLong : FlatLong → List ℕ → WriteAnswer → List ℕ → Type 0
-WritesLong l = AnsweredWriting (goodLongPassThrough (longFrom l)) (longPassThroughBytes (longFrom l))
 
 abbrev pub ownshipFrom : FlatReport → Ownship
 ownshipFrom f = record { report = reportFrom f }

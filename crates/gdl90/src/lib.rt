@@ -9,8 +9,8 @@ ghost use Rattle.collecting.specs.Stream.{answerNumber, messageLength, run};
 ghost use Rattle.heartbeat.specs.Heartbeat.{heartbeatRead};
 ghost use Rattle.initialization.specs.Initialization.{initializationRead};
 ghost use Rattle.report.specs.Reading.{ownshipRead, trafficRead};
-ghost use Rattle.gdl90.specs.Messages.{kindAnswer, uplinkAnswer, heightAnswer, geometricAnswer, basicAnswer, longAnswer, writeAnswer};
-ghost use Rattle.gdl90.specs.Messages.{WritesHeartbeat, WritesInitialization, WritesUplink, WritesHeight, WritesReport, WritesOwnship, WritesGeometric, WritesTraffic, WritesBasic, WritesLong};
+ghost use Rattle.gdl90.specs.Messages.{kindAnswer, uplinkAnswer, heightAnswer, geometricAnswer, writeAnswer};
+ghost use Rattle.gdl90.specs.Messages.{WritesHeartbeat, WritesInitialization, WritesUplink, WritesHeight, WritesReport, WritesOwnship, WritesGeometric, WritesTraffic};
 ghost use Rattle.messages.specs.Message.{kindNumber};
 ghost use Rattle.uplink.specs.Walk.{payloadFrames};
 ghost use Rattle.uplink.specs.Answers.{frameList, nthFrame};
@@ -25,14 +25,10 @@ ghost use Rattle.gdl90.specs.Texts.{textAnswer, ReadsText, WritesText};
 ghost use Rattle.gdl90.specs.Degrees.{degreesAnswer, ExactAnswer};
 use c_report::FlatReport;
 use c_report::FlatReportRead;
-use c_structs::FlatBasic;
-use c_structs::FlatBasicRead;
 use c_structs::FlatGeometric;
 use c_structs::FlatGeometricRead;
 use c_structs::FlatHeight;
 use c_structs::FlatHeightRead;
-use c_structs::FlatLong;
-use c_structs::FlatLongRead;
 use c_structs::FlatUplink;
 use c_structs::FlatUplinkRead;
 use codec::Written;
@@ -214,7 +210,7 @@ fn message_length(answer: Answer) -> usize
     }
 }
 
-// The number, 6 where the message is of no kind; and the kind's id, which is the first byte.
+// The number, 6 where the message is of no kind, 17 where its id is retired; and the kind's id, which is the first byte.
 #[repr(C)]
 pub struct KindAnswer {
     pub number: u8,
@@ -245,8 +241,7 @@ fn kind_number(kind: Kind) -> u8
         Kind::Ownship => 0,
         Kind::Geometric => 0,
         Kind::Traffic => 0,
-        Kind::Basic => 0,
-        Kind::Long => 0,
+        Kind::Retired => 17,
         Kind::Unknown => 6,
     }
 }
@@ -319,32 +314,6 @@ pub extern "C" fn gdl90_read_traffic(message: &[u8]) -> FlatReportRead
     report::read_traffic(message)
 }
 
-#[no_mangle]
-pub extern "C" fn gdl90_read_basic(message: &[u8]) -> FlatBasicRead
-    ensures { λ r. ⌜ r ≡ basicAnswer (now (message .entry)) ⌝ }
-{
-    let read = passing::read_basic_pass_through(message);
-    let value = read.basic;
-    let basic = c_structs::flat_basic(value);
-    FlatBasicRead {
-        number: read.number,
-        basic,
-    }
-}
-
-#[no_mangle]
-pub extern "C" fn gdl90_read_long(message: &[u8]) -> FlatLongRead
-    ensures { λ r. ⌜ r ≡ longAnswer (now (message .entry)) ⌝ }
-{
-    let read = passing::read_long_pass_through(message);
-    let value = read.long;
-    let long = c_structs::flat_long(value);
-    FlatLongRead {
-        number: read.number,
-        long,
-    }
-}
-
 // The number, and how many bytes were written, 0 with a refusal.
 #[repr(C)]
 pub struct WriteAnswer {
@@ -415,24 +384,6 @@ pub extern "C" fn gdl90_write_traffic(report: FlatReport, out: &mut [u8]) -> Wri
     ensures { λ r. ⌜ WritesTraffic report (now (out .entry)) r (now (out .exit)) ⌝ }
 {
     write_report(Traffic::ID, report, out)
-}
-
-#[no_mangle]
-pub extern "C" fn gdl90_write_basic(basic: FlatBasic, out: &mut [u8]) -> WriteAnswer
-    ensures { λ r. ⌜ WritesBasic basic (now (out .entry)) r (now (out .exit)) ⌝ }
-{
-    let value = c_structs::basic_from(basic);
-    let written = passing::write_basic_pass_through(value, out);
-    write_answer(written)
-}
-
-#[no_mangle]
-pub extern "C" fn gdl90_write_long(long: FlatLong, out: &mut [u8]) -> WriteAnswer
-    ensures { λ r. ⌜ WritesLong long (now (out .entry)) r (now (out .exit)) ⌝ }
-{
-    let value = c_structs::long_from(long);
-    let written = passing::write_long_pass_through(value, out);
-    write_answer(written)
 }
 
 // Of either kind.

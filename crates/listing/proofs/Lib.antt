@@ -4,3 +4,4 @@ pub mod Steps
 pub mod Passing
 pub mod Joining
 pub mod Trailing
+pub mod Framed

@@ -58,7 +58,7 @@ passed-lead l c h = go (eqb (l .lead) (l .taken))
     go true = omega arith
     go false = omega arith
 
-reached-flagless : (s : State) (bs : List ℕ) → s .lister .lead ≤ s .lister .taken → Flagless bs
+pub reached-flagless : (s : State) (bs : List ℕ) → s .lister .lead ≤ s .lister .taken → Flagless bs
     → reached s bs ≡ state (passed (s .lister) (length bs) (after (collector s) bs .control)) (after (collector s) bs .room)
 unfolding reached after Flagless passed
 reached-flagless s [] h f = ap (λ (l : Lister). state l (s .room)) (sym (passed-none (s .lister)))
@@ -67,7 +67,7 @@ reached-flagless s (b ∷ bs) h f =
     (reached-flagless (state (passed (s .lister) 1 (next (collector s) b .control)) (next (collector s) b .room)) bs (passed-lead (s .lister) (next (collector s) b .control) h) (f .1)
     ∙ ap (λ (l : Lister). state l (after (collector s) (b ∷ bs) .room)) (passed-more (s .lister) (length bs) (next (collector s) b .control) (after (collector s) (b ∷ bs) .control) h))
 
-texts-flagless : (s : State) (bs : List ℕ) → Flagless bs → texts s bs ≡ []
+pub texts-flagless : (s : State) (bs : List ℕ) → Flagless bs → texts s bs ≡ []
 unfolding texts Flagless
 texts-flagless s [] f = refl
 texts-flagless s (b ∷ bs) f = rw (textless s b (f .0)) (texts-flagless (advanced s b) bs (f .1))

@@ -15,11 +15,11 @@ use Rattle.listing.specs.Stretches.{trailBy, trail}
 use Rattle.listing.specs.Claims.{BothEnds}
 
 -- after a flag, with n bytes behind it
-record Inside (l : Lister) (n : ℕ) : Type 0 where
-  flagged : l .lead < l .taken
-  behind : l .taken ≡ l .after + n
+pub record Inside (l : Lister) (n : ℕ) : Type 0 where
+  pub flagged : l .lead < l .taken
+  pub behind : l .taken ≡ l .after + n
 
-inside-flag : (s : State) (b : ℕ) → s .lister .lead ≤ s .lister .taken → eqb b flag ≡ true → (Inside (advanced s b .lister) 0) × (advanced s b .lister .lead ≡ s .lister .lead)
+pub inside-flag : (s : State) (b : ℕ) → s .lister .lead ≤ s .lister .taken → eqb b flag ≡ true → (Inside (advanced s b .lister) 0) × (advanced s b .lister .lead ≡ s .lister .lead)
 unfolding advanced counted
 inside-flag s b h e = rw e (record { flagged = omega arith; behind = omega arith }, refl)
 
@@ -80,9 +80,14 @@ unfolding Whole unflagged trail reached
 outside-whole s [] w = (omega arith, omega (arith, w .none))
 outside-whole s (b ∷ bs) w = outside-by s b bs w (outside-whole (advanced s b) bs) (eqb b flag) refl
 
-pub both-ends : BothEnds
+whole : (bs : List ℕ) → Whole start (reached start bs) (unflagged bs) (trail bs)
+unfolding start opening
+whole bs = outside-whole start bs (record { all = refl; none = refl })
+
+pub lead-is : (bs : List ℕ) → reached start bs .lister .lead ≡ unflagged bs
 unfolding Whole start opening
-both-ends bs =
-    let w = outside-whole start bs (record { all = refl; none = refl }) in
-    let l : reached start bs .lister .lead ≡ unflagged bs = omega (arith, w .0) in
-    rw (l, w .1)
+lead-is bs = omega (arith, whole bs .0)
+
+pub both-ends : BothEnds
+unfolding Whole
+both-ends bs = rw (lead-is bs, whole bs .1)

@@ -1,11 +1,22 @@
 -- What is proved of the listing (RULES 'Listing'), over the definitions that the contracts cite.
 -- Assumes nothing.
 use mathlib.Core.Path.{_≡_}
-use mathlib.Core.List.{List, _∷_, _++_}
+use mathlib.Core.Bool.{cond}
+use mathlib.Core.List.{List, [], _∷_, _++_}
 use Prim.Native.Nat.{ℕ, _≤_, _<_}
-use lib.ListN.{take}
-use Rattle.collecting.specs.Stream.{unflagged}
-use Rattle.listing.specs.Listing.{limit, longest, State, start, reached, header, lastLine, ending, listing, steady, takenOf}
+use lib.Dec.{leb}
+use lib.ListN.{length, take, getD}
+use Rattle.fcs.specs.Fcs.{fcs}
+use Rattle.framing.specs.declared.Framed.the-variants.{Bytes, Refused}
+use Rattle.framing.specs.Stuffing.{flag}
+use Rattle.framing.specs.Frame.{lowFirst, frameOf}
+use Rattle.framing.specs.Framing.{framing}
+use Rattle.collecting.specs.Stream.{message, unflagged}
+use Rattle.collecting.specs.Claims.{Answered}
+use Rattle.messages.specs.Message.{readMessage, readingNumber}
+use Rattle.messages.specs.Claims.{Retired}
+use Rattle.listing.specs.Line.{digits}
+use Rattle.listing.specs.Listing.{limit, longest, State, start, answerLine, reached, texts, header, lastLine, ending, listing, steady, takenOf}
 use Rattle.listing.specs.Stretches.{Calls, trail}
 
 -- whatever the stretches, the header, their texts joined and the last line are the listing of the whole input, up to the limit
@@ -19,3 +30,24 @@ Moves = (s : State) (b : ℕ) (bs : List ℕ) (room : ℕ) → s .lister .taken 
 -- the last line has the lead-in bytes and the bytes after the last flag
 abbrev pub BothEnds : Type 0
 BothEnds = (bs : List ℕ) → ending (reached start bs .lister) ≡ lastLine (unflagged bs) (trail bs)
+
+-- whatever stood before it, the frame of a message of 1 to 436 bytes has one line: the next number, the offset of its first byte, what
+-- reading the message answers, its id and its length
+abbrev pub FramesListed : Type 0
+FramesListed =
+    (before m : List ℕ) → 1 ≤ length m → length m ≤ 436
+    → texts start (before ++ frameOf m)
+    ≡ texts start (before ++ (flag ∷ []))
+    ++ answerLine (reached start (before ++ (flag ∷ [])) .lister) (readingNumber (readMessage m)) (digits (getD m 0 0)) (digits (length m))
+
+-- old recordings hold retired messages (RULES 'Retired ids'). One of up to 436 bytes is framed and collected as any other message is,
+-- and its line has the answer 17
+pub record FramedCollectedListed (before m : List ℕ) : Type 0 where
+  pub framed : (room : ℕ) → framing m room ≡ cond (leb (length (frameOf m)) room) (Bytes (length (frameOf m))) (Refused 9)
+  pub collected : Answered before (m ++ lowFirst (fcs m)) (message m)
+  pub listed : texts start (before ++ frameOf m)
+      ≡ texts start (before ++ (flag ∷ []))
+      ++ answerLine (reached start (before ++ (flag ∷ [])) .lister) 17 (digits (getD m 0 0)) (digits (length m))
+
+abbrev pub RetiredFrames : Type 0
+RetiredFrames = (before m : List ℕ) → Retired m → length m ≤ 436 → FramedCollectedListed before m

@@ -1,4 +1,4 @@
-// The nine kinds of message as typed values (001 §3; RULES 'Messages'). There is no code here: the crates above
+// The seven kinds of message as typed values (001 §3; RULES 'Messages'). There is no code here: the crates above
 // read and write them. Marks such as none or over are cases of their own; bits named reserved or spare are carried.
 use units::GeometricSteps;
 use units::PressureSteps;
@@ -105,8 +105,9 @@ pub enum Climb {
     None,
 }
 
+// As it came, any bytes.
 #[repr(C)]
-pub struct Bytes8(
+pub struct CallSign(
     pub u8,
     pub u8,
     pub u8,
@@ -134,7 +135,7 @@ pub struct Report {
     // in steps of 360/256 degrees
     pub track: u8,
     pub emitter: u8,
-    pub call_sign: Bytes8,
+    pub call_sign: CallSign,
     pub priority: u8,
     pub spare: u8,
 }
@@ -180,38 +181,6 @@ impl GeometricAltitude {
     pub const LENGTH: usize = 5;
 }
 
-// 001 §3.6. The payload's 18 bytes are a, b, e, f.
-pub struct BasicPassThrough {
-    pub reception: Reception,
-    pub a: Bytes8,
-    pub b: Bytes8,
-    pub e: u8,
-    pub f: u8,
-}
-
-impl BasicPassThrough {
-    pub const ID: u8 = 30;
-
-    pub const LENGTH: usize = 22;
-}
-
-// 001 §3.6. The payload's 34 bytes are a, b, c, d, e, f.
-pub struct LongPassThrough {
-    pub reception: Reception,
-    pub a: Bytes8,
-    pub b: Bytes8,
-    pub c: Bytes8,
-    pub d: Bytes8,
-    pub e: u8,
-    pub f: u8,
-}
-
-impl LongPassThrough {
-    pub const ID: u8 = 31;
-
-    pub const LENGTH: usize = 38;
-}
-
 // What reading one kind answers: the number, and the value, which is all zero with a refusal.
 #[repr(C)]
 pub struct HeartbeatRead {
@@ -240,16 +209,6 @@ pub struct GeometricRead {
     pub geometric: GeometricAltitude,
 }
 
-pub struct BasicRead {
-    pub number: u8,
-    pub basic: BasicPassThrough,
-}
-
-pub struct LongRead {
-    pub number: u8,
-    pub long: LongPassThrough,
-}
-
 pub enum Message {
     Heartbeat(Heartbeat),
     Initialization(Initialization),
@@ -258,12 +217,10 @@ pub enum Message {
     Ownship(Ownship),
     Geometric(GeometricAltitude),
     Traffic(Traffic),
-    Basic(BasicPassThrough),
-    Long(LongPassThrough),
 }
 
 pub enum Reading {
     Message(Message),
-    // the number: 6, empty or another id; 7, length; 8, a field outside its range
+    // the number: 6, empty or another id; 17, a retired id; 7, length; 8, a field outside its range
     Refused(u8),
 }

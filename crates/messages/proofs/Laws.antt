@@ -11,7 +11,7 @@ use Rattle.numbers.specs.Bytes.{AreBytes}
 use Rattle.codec.specs.Reading.{misfit, reading}
 use Rattle.codec.proofs.Outcomes.{read-only}
 use Rattle.message_types.specs.declared.Message.{Message}
-use Rattle.message_types.specs.declared.Message.the-variants.{Heartbeat, Initialization, Uplink, Height, Ownship, Geometric, Traffic, Basic, Long}
+use Rattle.message_types.specs.declared.Message.the-variants.{Heartbeat, Initialization, Uplink, Height, Ownship, Geometric, Traffic}
 use Rattle.message_types.specs.declared.Reading.{Reading}
 use Rattle.message_types.specs.declared.Reading.the-variants.{Message as Accepted, Refused}
 use Rattle.heartbeat.specs.Heartbeat.{heartbeatIn, goodHeartbeat}
@@ -19,14 +19,12 @@ use Rattle.initialization.specs.Initialization.{initializationIn, goodInitializ
 use Rattle.altitudes.specs.Height.{terrainIn, goodTerrain, terrainBytes}
 use Rattle.altitudes.specs.Geometric.{geometricIn, goodGeometric, geometricBytes}
 use Rattle.passing.specs.Uplink.{uplinkIn, goodUplink, uplinkBytes, payloadOf}
-use Rattle.passing.specs.PassThrough.{basicPassThroughIn, goodBasicPassThrough, longPassThroughIn, goodLongPassThrough}
 use Rattle.report.specs.Bytes.{reportIn, reportBytes}
 use Rattle.report.specs.Reading.{goodReport}
 use Rattle.heartbeat.proofs.Laws as heartbeats
 use Rattle.initialization.proofs.Laws as initializations
 use Rattle.altitudes.proofs.Back as altitudes
 use Rattle.passing.proofs.Uplinks as uplinks
-use Rattle.passing.proofs.PassThroughs as pass-throughs
 use Rattle.report.proofs.Laws as reports
 use Rattle.messages.specs.declared.Kind.{Kind}
 use Rattle.messages.specs.declared.Kind.the-variants as kind
@@ -56,8 +54,6 @@ accepted (Height h) payload t p g = (simp (altitudes.terrain-written-read h t g,
 accepted (Ownship o) payload t p g = (simp (reports.written-read 10 (o .report) g, g), refl)
 accepted (Geometric a) payload t p g = (simp (altitudes.geometric-written-read a t g, g), refl)
 accepted (Traffic o) payload t p g = (simp (reports.written-read 20 (o .report) g, g), refl)
-accepted (Basic b) payload t p g = (simp (pass-throughs.basic-written-read b g, g), refl)
-accepted (Long b) payload t p g = (simp (pass-throughs.long-written-read b g, g), refl)
 
 pub written-read : WrittenRead
 written-read x payload t p g = let r = accepted x payload t p g in ((ap readingNumber (r .0), ap readingValue (r .0)), r .1)
@@ -91,8 +87,7 @@ module _ (m : List ℕ) (x : Message) where
     of-kind kind.Ownship = held 10 28 reportIn goodReport (λ r. Ownship (record { report = r })) (λ n l g. (g, refl, reports.read-written 10 m l bytes n))
     of-kind kind.Geometric = held 11 5 geometricIn goodGeometric Geometric (λ n l g. (g, refl, altitudes.geometric-read-written m l bytes n))
     of-kind kind.Traffic = held 20 28 reportIn goodReport (λ r. Traffic (record { report = r })) (λ n l g. (g, refl, reports.read-written 20 m l bytes n))
-    of-kind kind.Basic = held 30 22 basicPassThroughIn goodBasicPassThrough Basic (λ n l g. (g, refl, pass-throughs.basic-read-written m l bytes n))
-    of-kind kind.Long = held 31 38 longPassThroughIn goodLongPassThrough Long (λ n l g. (g, refl, pass-throughs.long-read-written m l bytes n))
+    of-kind kind.Retired = λ h. absurd (apart h)
     of-kind kind.Unknown = λ h. absurd (apart h)
 
 same : (m : List ℕ) (x : Message) → AreBytes m → Reads m x → Same m x x

@@ -1,4 +1,4 @@
--- Demand 2 (RULES 'Demands') for messages, over all nine kinds at once.
+-- Demand 2 (RULES 'Demands') for messages, over all seven kinds at once; and exactly which messages are retired.
 -- Assumes nothing.
 use mathlib.Core.Path.{_≡_}
 use Prim.Native.Nat.{ℕ, _<_}
@@ -8,8 +8,9 @@ use lib.ListN.{drop}
 use lib.Signed.{mag}
 use Rattle.numbers.specs.Bytes.{AreBytes}
 use Rattle.message_types.specs.declared.Message.{Message}
-use Rattle.message_types.specs.declared.Message.the-variants.{Heartbeat, Initialization, Uplink, Height, Ownship, Geometric, Traffic, Basic, Long}
+use Rattle.message_types.specs.declared.Message.the-variants.{Heartbeat, Initialization, Uplink, Height, Ownship, Geometric, Traffic}
 use Rattle.altitudes.specs.Claims.{TypedHeight}
+use Rattle.message_types.specs.declared.Reading.the-variants.{Refused}
 use Rattle.passing.specs.Uplink.{payloadOf}
 use Rattle.messages.specs.Message.{messageBytes, goodMessage, goodPayload, carried, readMessage, readingNumber, readingValue}
 
@@ -22,8 +23,6 @@ Typed (Height x) = TypedHeight (x .height)
 Typed (Ownship x) = Unit {0}
 Typed (Geometric x) = mag (x .altitude .steps) < 0x8000
 Typed (Traffic x) = Unit {0}
-Typed (Basic x) = Unit {0}
-Typed (Long x) = Unit {0}
 
 -- reading answers 0, with this value
 abbrev pub Reads : List ℕ → Message → Type 0
@@ -44,3 +43,12 @@ abbrev pub ReadGood : Type 0
 ReadGood =
     (m : List ℕ) (x : Message) → AreBytes m → Reads m x
     → (goodMessage x ≡ true) × (goodPayload x (drop 4 m) ≡ true)
+
+-- a message with a retired id (RULES 'Retired ids'), whatever stands behind it
+pub data Retired : List ℕ → Type 0 where
+  basic : (rest : List ℕ) → Retired (30 ∷ rest)
+  long : (rest : List ℕ) → Retired (31 ∷ rest)
+
+-- each is answered 17, and nothing else is
+abbrev pub RetiredIs17 : Type 0
+RetiredIs17 = (m : List ℕ) → (Retired m → readMessage m ≡ Refused 17) × (readingNumber (readMessage m) ≡ 17 → Retired m)

@@ -1,4 +1,4 @@
--- The nine kinds of message together (001 §3, Table 2; RULES 'Messages').
+-- The seven kinds of message together (001 §3, Table 2; RULES 'Messages', 'Retired ids').
 -- Assumes nothing.
 use mathlib.Core.Path.{_≡_}
 use Prim.Native.Nat.{ℕ}
@@ -11,7 +11,7 @@ use Rattle.codec.specs.declared.Written.{Written}
 use Rattle.codec.specs.declared.Written.the-variants.{Refused as NotWritten}
 use Rattle.codec.specs.Writing.{writing, writtenOutput}
 use Rattle.message_types.specs.declared.Message.{Message}
-use Rattle.message_types.specs.declared.Message.the-variants.{Heartbeat, Initialization, Uplink, Height, Ownship, Geometric, Traffic, Basic, Long}
+use Rattle.message_types.specs.declared.Message.the-variants.{Heartbeat, Initialization, Uplink, Height, Ownship, Geometric, Traffic}
 use Rattle.message_types.specs.declared.Reading.{Reading}
 use Rattle.message_types.specs.declared.Reading.the-variants.{Message as Accepted, Refused}
 use Rattle.heartbeat.specs.Heartbeat.{goodHeartbeat, heartbeatBytes, readHeartbeat}
@@ -19,13 +19,12 @@ use Rattle.initialization.specs.Initialization.{goodInitialization, initializat
 use Rattle.altitudes.specs.Height.{goodTerrain, terrainBytes, readTerrain}
 use Rattle.altitudes.specs.Geometric.{goodGeometric, geometricBytes, readGeometric}
 use Rattle.passing.specs.Uplink.{goodUplink, uplinkBytes, readUplink}
-use Rattle.passing.specs.PassThrough.{goodBasicPassThrough, basicPassThroughBytes, readBasicPassThrough, goodLongPassThrough, longPassThroughBytes, readLongPassThrough}
 use Rattle.report.specs.Bytes.{ownshipBytes, trafficBytes}
 use Rattle.report.specs.Reading.{goodReport, readOwnship, readTraffic}
 use Rattle.messages.specs.declared.Kind.{Kind}
 use Rattle.messages.specs.declared.Kind.the-variants as kind
 
--- each kind's id
+-- each kind's id; the ids of basic and long pass-through, 30 and 31 (001 §3.6), are retired
 abbrev pub kindOf : ℕ → Kind
 kindOf id =
     cond (eqb id 0) kind.Heartbeat
@@ -35,14 +34,14 @@ kindOf id =
     (cond (eqb id 10) kind.Ownship
     (cond (eqb id 11) kind.Geometric
     (cond (eqb id 20) kind.Traffic
-    (cond (eqb id 30) kind.Basic
-    (cond (eqb id 31) kind.Long kind.Unknown))))))))
+    (cond (eqb id 30) kind.Retired
+    (cond (eqb id 31) kind.Retired kind.Unknown))))))))
 
 -- an empty message has none
 unfoldable pub kindIn : List ℕ → Kind
 kindIn m = cond (eqb (length m) 0) kind.Unknown (kindOf (getD m 0 0))
 
--- the number for each kind: 6 where it is none
+-- the number for each kind: 6 where it is none, 17 where it is retired
 abbrev pub kindNumber : Kind → ℕ
 kindNumber kind.Heartbeat = 0
 kindNumber kind.Initialization = 0
@@ -51,8 +50,7 @@ kindNumber kind.Height = 0
 kindNumber kind.Ownship = 0
 kindNumber kind.Geometric = 0
 kindNumber kind.Traffic = 0
-kindNumber kind.Basic = 0
-kindNumber kind.Long = 0
+kindNumber kind.Retired = 17
 kindNumber kind.Unknown = 6
 
 abbrev pub readAs : Kind → List ℕ → Reading
@@ -63,11 +61,10 @@ readAs kind.Height m = readTerrain m
 readAs kind.Ownship m = readOwnship m
 readAs kind.Geometric m = readGeometric m
 readAs kind.Traffic m = readTraffic m
-readAs kind.Basic m = readBasicPassThrough m
-readAs kind.Long m = readLongPassThrough m
+readAs kind.Retired m = Refused 17
 readAs kind.Unknown m = Refused 6
 
--- 6 for an empty message or an id that is not in the list; else as of the kind
+-- 6 for an empty message or an id that is not in the list; then 17 for a retired id, of whatever length; else as of the kind
 unfoldable pub readMessage : List ℕ → Reading
 readMessage m = readAs (kindIn m) m
 
@@ -93,8 +90,6 @@ messageBytes (Height x) payload = terrainBytes x
 messageBytes (Ownship x) payload = ownshipBytes x
 messageBytes (Geometric x) payload = geometricBytes x
 messageBytes (Traffic x) payload = trafficBytes x
-messageBytes (Basic x) payload = basicPassThroughBytes x
-messageBytes (Long x) payload = longPassThroughBytes x
 
 -- every field is within its bits and its range, and no mark is a plain number
 abbrev pub goodMessage : Message → Bool
@@ -105,8 +100,6 @@ goodMessage (Height x) = goodTerrain x
 goodMessage (Ownship x) = goodReport (x .report)
 goodMessage (Geometric x) = goodGeometric x
 goodMessage (Traffic x) = goodReport (x .report)
-goodMessage (Basic x) = goodBasicPassThrough x
-goodMessage (Long x) = goodLongPassThrough x
 
 -- only an uplink has a payload beside it, of 432 bytes
 abbrev pub goodPayload : Message → List ℕ → Bool
@@ -117,8 +110,6 @@ goodPayload (Height x) payload = true
 goodPayload (Ownship x) payload = true
 goodPayload (Geometric x) payload = true
 goodPayload (Traffic x) payload = true
-goodPayload (Basic x) payload = true
-goodPayload (Long x) payload = true
 
 -- the payload that a message carries: of the other kinds none
 abbrev pub carried : Message → List ℕ → List ℕ
@@ -129,8 +120,6 @@ carried (Height x) payload = []
 carried (Ownship x) payload = []
 carried (Geometric x) payload = []
 carried (Traffic x) payload = []
-carried (Basic x) payload = []
-carried (Long x) payload = []
 
 -- 7 for an uplink's payload, then 8, then 9
 unfoldable pub writingMessage : Message → List ℕ → ℕ → Written

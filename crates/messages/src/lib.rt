@@ -2,17 +2,20 @@
 ghost use mathlib.Core.Path.{_≡_};
 ghost use Rattle.messages.specs.Message.{kindOf, kindIn, readAs, asReading, readMessage, WroteMessage};
 use codec::Written;
-use message_types::BasicPassThrough;
 use message_types::GeometricAltitude;
 use message_types::Heartbeat;
 use message_types::HeightAboveTerrain;
 use message_types::Initialization;
-use message_types::LongPassThrough;
 use message_types::Message;
 use message_types::Ownship;
 use message_types::Reading;
 use message_types::Traffic;
 use message_types::Uplink;
+
+// The ids of basic and long pass-through (001 §3.6), which are retired.
+const BASIC_PASS_THROUGH: u8 = 30;
+
+const LONG_PASS_THROUGH: u8 = 31;
 
 // What an id says.
 pub enum Kind {
@@ -23,8 +26,8 @@ pub enum Kind {
     Ownship,
     Geometric,
     Traffic,
-    Basic,
-    Long,
+    // an id of RULES 'Retired ids'
+    Retired,
     Unknown,
 }
 
@@ -56,8 +59,8 @@ fn kind_of(id: u8) -> Kind
         Ownship::ID => Kind::Ownship,
         GeometricAltitude::ID => Kind::Geometric,
         Traffic::ID => Kind::Traffic,
-        BasicPassThrough::ID => Kind::Basic,
-        LongPassThrough::ID => Kind::Long,
+        BASIC_PASS_THROUGH => Kind::Retired,
+        LONG_PASS_THROUGH => Kind::Retired,
         _ => Kind::Unknown,
     }
 }
@@ -103,16 +106,7 @@ fn read_as(kind: Kind, message: &[u8]) -> Reading
             let report = c_report::report_from(flat);
             as_reading(read.number, Message::Traffic(Traffic { report }))
         }
-        Kind::Basic => {
-            let read = passing::read_basic_pass_through(message);
-            let basic = read.basic;
-            as_reading(read.number, Message::Basic(basic))
-        }
-        Kind::Long => {
-            let read = passing::read_long_pass_through(message);
-            let long = read.long;
-            as_reading(read.number, Message::Long(long))
-        }
+        Kind::Retired => Reading::Refused(17),
         Kind::Unknown => Reading::Refused(6),
     }
 }
@@ -139,7 +133,5 @@ pub fn write(message: Message, payload: &[u8], out: &mut [u8]) -> Written
         Message::Ownship(x) => report::write_ownship(x, out),
         Message::Geometric(x) => altitudes::write_geometric(x, out),
         Message::Traffic(x) => report::write_traffic(x, out),
-        Message::Basic(x) => passing::write_basic_pass_through(x, out),
-        Message::Long(x) => passing::write_long_pass_through(x, out),
     }
 }

@@ -9,14 +9,12 @@ use libc::STDERR_FILENO;
 use libc::STDIN_FILENO;
 use libc::STDOUT_FILENO;
 use message_types::Altitude;
-use message_types::BasicPassThrough;
-use message_types::Bytes8;
+use message_types::CallSign;
 use message_types::Climb;
 use message_types::GeometricAltitude;
 use message_types::Heartbeat;
 use message_types::Height;
 use message_types::Initialization;
-use message_types::LongPassThrough;
 use message_types::Merit;
 use message_types::Message;
 use message_types::Position;
@@ -62,24 +60,19 @@ fn beyond(n: u32) -> u64 {
     (n as u64) + 1
 }
 
-// Without a blank.
-fn print_eight(bytes: Bytes8) {
+fn print_call_sign(sign: CallSign) {
+    print(b" ");
     let list = [
-        bytes.0,
-        bytes.1,
-        bytes.2,
-        bytes.3,
-        bytes.4,
-        bytes.5,
-        bytes.6,
-        bytes.7,
+        sign.0,
+        sign.1,
+        sign.2,
+        sign.3,
+        sign.4,
+        sign.5,
+        sign.6,
+        sign.7,
     ];
     printing::hex_bytes(STDOUT_FILENO, &list, 8);
-}
-
-fn print_two(e: u8, f: u8) {
-    let list = [e, f];
-    printing::hex_bytes(STDOUT_FILENO, &list, 2);
 }
 
 fn print_heartbeat(heartbeat: Heartbeat) {
@@ -130,34 +123,6 @@ fn print_merit(merit: Merit) {
     }
 }
 
-fn print_basic(basic: BasicPassThrough) {
-    print(b"basic");
-    let reception = basic.reception;
-    let a = basic.a;
-    let b = basic.b;
-    print_reception(reception);
-    print(b" ");
-    print_eight(a);
-    print_eight(b);
-    print_two(basic.e, basic.f);
-}
-
-fn print_long(long: LongPassThrough) {
-    print(b"long");
-    let reception = long.reception;
-    let a = long.a;
-    let b = long.b;
-    let c = long.c;
-    let d = long.d;
-    print_reception(reception);
-    print(b" ");
-    print_eight(a);
-    print_eight(b);
-    print_eight(c);
-    print_eight(d);
-    print_two(long.e, long.f);
-}
-
 fn print_report(report: Report) {
     print_byte(report.alert);
     print_byte(report.address_type);
@@ -178,9 +143,8 @@ fn print_report(report: Report) {
     print_climb(climb);
     print_byte(report.track);
     print_byte(report.emitter);
-    print(b" ");
     let call_sign = report.call_sign;
-    print_eight(call_sign);
+    print_call_sign(call_sign);
     print_byte(report.priority);
     print_byte(report.spare);
 }
@@ -255,8 +219,6 @@ fn print_message(message: Message) {
             let report = x.report;
             print_report(report);
         }
-        Message::Basic(x) => print_basic(x),
-        Message::Long(x) => print_long(x),
     }
 }
 

@@ -12,6 +12,10 @@ pub both : (a b : Bool) → a && b ≡ true → (a ≡ true) × (b ≡ true)
 both true b e = (refl, e)
 both false b e = ((cc), (cc))
 
+pub also-false : (b : Bool) → b && false ≡ false
+also-false true = refl
+also-false false = refl
+
 -- what holds of a where n is k, and of b, holds of the one that the test chooses
 pub chosen : {X : Type 0} (P : X → Type 0) (n k : ℕ) (a b : X) → (n ≡ k → P a) → P b → P (cond (eqb n k) a b)
 chosen P n k a b y z = go (eqb n k) refl

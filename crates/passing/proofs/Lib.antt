@@ -1,4 +1,3 @@
 pub mod Parts
 pub mod Receptions
-pub mod PassThroughs
 pub mod Uplinks

@@ -30,16 +30,16 @@ behind a b rest {r} {left} h w =
     let own : Wrote true b rest r left = simp (drop-append-seam a rest, size, take-length rest) at w in
     simp (take-append-seam a rest, drop-append-seam a rest, size, drop-length rest, append-nil, filled h own)
 
-pub both : (a b out : List ℕ) {r s : Written} {mid left : List ℕ} → length a + length b ≤ length out → Wrote true a out r mid
+pub both : (a b out : List ℕ) {r s : Written} {mid left : List ℕ} {n : ℕ} → n ≡ length a + length b → n ≤ length out → Wrote true a out r mid
     → Wrote true b (take (length mid - length a) (drop (length a) mid)) s left
-    → Wrote true (a ++ b) out (Bytes (length a + length b)) (take (length a) mid ++ (left ++ drop (length mid - length a) (drop (length a) mid)))
+    → Wrote true (a ++ b) out (Bytes n) (take (length a) mid ++ (left ++ drop (length mid - length a) (drop (length a) mid)))
 unfolding writing written
-both a b out {s = s} {left = left} h v w =
+both a b out {s = s} {left = left} size h v w =
     let rest = drop (length a) out in
     let room : length b ≤ length rest = omega (arith, length-drop (length a) out) in
     let e = filled (omega arith) v in
     let end = length-append a b in
     record {
-      answers = simp (end, le-leb (length a + length b) (length out) h);
+      answers = simp (end, ← size, le-leb _ (length out) h);
       leaves = rw e (behind a b rest room (rw e at w) ∙ simp (append-assoc, end, drop-drop));
     }

@@ -1,4 +1,3 @@
 pub mod Reception
-pub mod PassThrough
 pub mod Uplink
 pub mod Claims

@@ -1,8 +1,8 @@
--- The time of reception (001 §3.3.1, RULES 'Uplink'), and the messages that start with one.
+-- The time of reception (001 §3.3.1, RULES 'Uplink').
 -- Assumes nothing.
-use Prim.Native.Nat.{ℕ, _+_, _*_, _/_, _%_}
+use Prim.Native.Nat.{ℕ, _+_, _*_}
 use mathlib.Core.Bool.{Bool, true, cond}
-use mathlib.Core.List.{List, _∷_}
+use mathlib.Core.List.{List}
 use lib.Dec.{eqb, leb}
 use lib.ListN.{getD}
 use Rattle.message_types.specs.declared.Reception.{Reception}
@@ -29,12 +29,3 @@ goodReception None = true
 abbrev pub receptionNumber : Reception → ℕ
 receptionNumber (Steps n) = n
 receptionNumber None = 0xFFFFFF
-
--- a message: id, time of reception, payload
-abbrev pub received : ℕ → Reception → List ℕ → List ℕ
-received id r payload =
-    id
-    ∷ (receptionNumber r % 256)
-    ∷ (receptionNumber r / 256 % 256)
-    ∷ (receptionNumber r / 65536 % 256)
-    ∷ payload

@@ -1,9 +1,9 @@
 -- The uplink (001 §3.3, RULES 'Uplink'): id 7, 436 bytes, of which the payload is 432.
 -- Assumes nothing.
 use mathlib.Core.Path.{_≡_}
-use Prim.Native.Nat.{ℕ}
+use Prim.Native.Nat.{ℕ, _/_, _%_}
 use mathlib.Core.Bool.{Bool, cond}
-use mathlib.Core.List.{List}
+use mathlib.Core.List.{List, [], _∷_, _++_}
 use lib.Dec.{eqb}
 use lib.ListN.{length}
 use Rattle.numbers.specs.Lent.{written, stretch, Part}
@@ -11,13 +11,14 @@ use Rattle.codec.specs.Reading.{reading}
 use Rattle.codec.specs.declared.Written.{Written}
 use Rattle.codec.specs.declared.Written.the-variants.{Refused as RefusedWriting}
 use Rattle.codec.specs.Writing.{writing, writtenOutput}
+use Rattle.message_types.specs.declared.Reception.{Reception}
 use Rattle.message_types.specs.declared.Reception.the-variants.{Steps}
 use Rattle.message_types.specs.declared.Uplink.{Uplink}
 use Rattle.message_types.specs.declared.UplinkRead.{UplinkRead}
 use Rattle.message_types.specs.declared.Message.the-variants as kind
 use Rattle.message_types.specs.declared.Reading.{Reading}
 use Rattle.message_types.specs.declared.Reading.the-variants.{Message, Refused}
-use Rattle.passing.specs.Reception.{receptionIn, goodReception, received}
+use Rattle.passing.specs.Reception.{receptionIn, goodReception, receptionNumber}
 
 abbrev pub uplinkIn : List ℕ → Uplink
 uplinkIn m = record { reception = receptionIn m }
@@ -25,8 +26,12 @@ uplinkIn m = record { reception = receptionIn m }
 abbrev pub goodUplink : Uplink → Bool
 goodUplink u = goodReception (u .reception)
 
+-- the id and the time of reception, low byte first
+abbrev pub headBytes : Reception → List ℕ
+headBytes r = 7 ∷ (receptionNumber r % 256) ∷ (receptionNumber r / 256 % 256) ∷ (receptionNumber r / 65536 % 256) ∷ []
+
 abbrev pub uplinkBytes : Uplink → List ℕ → List ℕ
-uplinkBytes u payload = received 7 (u .reception) payload
+uplinkBytes u payload = headBytes (u .reception) ++ payload
 
 abbrev pub uplinkRefused : ℕ → UplinkRead
 uplinkRefused k = record { number = k; uplink = record { reception = Steps 0 } }

@@ -9,8 +9,8 @@ use lib.ListN.{getD}
 use Rattle.numbers.specs.Signed.{fieldOf}
 use Rattle.c_report.specs.Flat.{trackNumber, trackFrom}
 use Rattle.report.specs.Marks.{positionOf, placeOf, altitudeOf, stepsOr, asBit, speedOf, knotsOr, climbOf, climbOr}
-use Rattle.message_types.specs.Bytes.{eightAt}
 use Rattle.report.specs.declared.Codes.{Codes}
+use Rattle.message_types.specs.declared.CallSign.{CallSign}
 use Rattle.message_types.specs.declared.Ownship.{Ownship}
 use Rattle.message_types.specs.declared.Report.{Report}
 use Rattle.message_types.specs.declared.Traffic.{Traffic}
@@ -48,6 +48,18 @@ codesIn m = record {
   climb = lowAt m 15;
 }
 
+abbrev pub callSignIn : List ℕ → CallSign
+callSignIn m = record {
+  0 = getD m 19 0;
+  1 = getD m 20 0;
+  2 = getD m 21 0;
+  3 = getD m 22 0;
+  4 = getD m 23 0;
+  5 = getD m 24 0;
+  6 = getD m 25 0;
+  7 = getD m 26 0;
+}
+
 -- the report that the bytes hold
 unfoldable pub reportIn : List ℕ → Report
 reportIn m = record {
@@ -65,7 +77,7 @@ reportIn m = record {
   climb = climbOf (codesIn m .climb);
   track = getD m 17 0;
   emitter = getD m 18 0;
-  «call_sign» = eightAt m 19;
+  «call_sign» = callSignIn m;
   priority = getD m 27 0 / 16;
   spare = getD m 27 0 % 16;
 }

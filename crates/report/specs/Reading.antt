@@ -9,7 +9,6 @@ use lib.Signed.{leZ}
 use Rattle.codec.specs.Reading.{reading}
 use Rattle.report.specs.Marks.{isNone, placeOf, stepsOr, knotsOr, climbOr}
 use Rattle.report.specs.Bytes.{reportIn}
-use Rattle.message_types.specs.Bytes.{noBytes}
 use Rattle.message_types.specs.declared.Position.{Position}
 use Rattle.message_types.specs.declared.Report.{Report}
 use Rattle.c_report.specs.declared.FlatReportRead.{FlatReportRead}
@@ -96,7 +95,7 @@ reportRefused k = record {
     climb = pos 0;
     track = 0;
     emitter = 0;
-    «call_sign» = noBytes;
+    «call_sign» = record { 0 = 0; 1 = 0; 2 = 0; 3 = 0; 4 = 0; 5 = 0; 6 = 0; 7 = 0 };
     priority = 0;
     spare = 0;
   };

@@ -6,15 +6,14 @@ ghost use lib.ListN.{length};
 ghost use Rattle.codec.specs.Writing.{Wrote};
 ghost use Rattle.numbers.specs.Signed.{signedIn, fieldOf};
 ghost use Rattle.report.specs.Marks.{stepsOr, knotsOr, climbOr, placeOf, isNone, noneMark, asBit, altitudeOf, speedOf, climbOf, positionOf};
-ghost use Rattle.message_types.specs.Bytes.{eightAt};
 ghost use Rattle.c_report.specs.Flat.{positionMark, altitudeMark, altitudeSteps, speedMark, speedKnots, climbMark, climbSteps, flatReport};
-ghost use Rattle.report.specs.Bytes.{three, threeAt, twelveHigh, highAt, twelveLow, lowAt, codesIn, codesOf, reportIn, packed, reportBytes, ownshipBytes, trafficBytes};
+ghost use Rattle.report.specs.Bytes.{three, threeAt, twelveHigh, highAt, twelveLow, lowAt, codesIn, codesOf, callSignIn, reportIn, packed, reportBytes, ownshipBytes, trafficBytes};
 ghost use Rattle.report.specs.Reading.{between, goodPosition, withinBits, goodReport, reportRefused, reportRead, isReportId, ownshipRead, trafficRead};
 use c_report::FlatReport;
 use c_report::FlatReportRead;
 use codec::Written;
 use message_types::Altitude;
-use message_types::Bytes8;
+use message_types::CallSign;
 use message_types::Climb;
 use message_types::Ownship;
 use message_types::Position;
@@ -208,7 +207,7 @@ fn report_refused(number: u8) -> FlatReportRead
         climb: 0,
         track: 0,
         emitter: 0,
-        call_sign: Bytes8(0, 0, 0, 0, 0, 0, 0, 0),
+        call_sign: CallSign(0, 0, 0, 0, 0, 0, 0, 0),
         priority: 0,
         spare: 0,
     };
@@ -377,11 +376,11 @@ fn packed_report(id: u8, report: Report, c: Codes) -> [u8; 28]
     ]
 }
 
-fn call_sign_in(message: &[u8]) -> Bytes8
+fn call_sign_in(message: &[u8]) -> CallSign
     requires { ⌜ length (now message) ≡ 28 ⌝ }
-    ensures { λ r. ⌜ r ≡ eightAt (now (message .entry)) 19 ⌝ }
+    ensures { λ r. ⌜ r ≡ callSignIn (now (message .entry)) ⌝ }
 {
-    Bytes8(
+    CallSign(
         message[19],
         message[20],
         message[21],

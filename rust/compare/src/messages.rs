@@ -24,8 +24,6 @@ pub fn from_reference(message: &reference::Message) -> gdl90::Message<'_> {
         reference::Message::Ownship(report) => gdl90::Message::Ownship(from_report(report)),
         reference::Message::Geometric(geometric) => from_geometric(geometric).into(),
         reference::Message::Traffic(report) => gdl90::Message::Traffic(from_report(report)),
-        reference::Message::Basic(basic) => from_received(basic).into(),
-        reference::Message::Long(long) => from_received(long).into(),
     }
 }
 
@@ -53,8 +51,6 @@ pub fn to_reference(message: gdl90::Message<'_>) -> reference::Message {
             reference::Message::Geometric(to_geometric(geometric))
         }
         gdl90::Message::Traffic(report) => reference::Message::Traffic(to_report(report)),
-        gdl90::Message::Basic(basic) => reference::Message::Basic(to_received(basic)),
-        gdl90::Message::Long(long) => reference::Message::Long(to_received(long)),
         other => panic!("the reference has no such kind: {other:?}"),
     }
 }
@@ -102,20 +98,6 @@ fn to_geometric(geometric: gdl90::GeometricAltitude) -> reference::GeometricAlti
             Some(gdl90::Merit::Over) => reference::Merit::Over,
             None => reference::Merit::None,
         },
-    }
-}
-
-fn from_received<const N: usize>(received: &reference::Received<N>) -> gdl90::PassThrough<N> {
-    gdl90::PassThrough {
-        reception: received.reception,
-        payload: received.payload,
-    }
-}
-
-fn to_received<const N: usize>(received: gdl90::PassThrough<N>) -> reference::Received<N> {
-    reference::Received {
-        reception: received.reception,
-        payload: received.payload,
     }
 }
 

@@ -37,10 +37,6 @@ fn assert_distinct(message: &[u8]) {
     assert_eq!(bytes.len(), message.len(), "{message:02X?}");
 }
 
-fn bytes<const N: usize>(first: u8) -> [u8; N] {
-    std::array::from_fn(|n| first + n as u8)
-}
-
 #[test]
 fn heartbeats() {
     let check = |raw| {
@@ -141,28 +137,6 @@ fn geometric_altitudes() {
     check(i16::MIN, false, NUMBER, 32_766);
     check(i16::MAX, true, OVER, 0);
     check(-1, false, NONE, 0);
-}
-
-#[test]
-fn pass_throughs() {
-    for (reception_mark, reception) in [(NUMBER, 0x9A_BCDE), (NUMBER, 12_499_999), (NONE, 0)] {
-        let basic = raw::Basic {
-            reception_mark,
-            reception,
-            payload: bytes(0x40),
-        };
-        let long = raw::Long {
-            reception_mark,
-            reception,
-            payload: bytes(0x40),
-        };
-        let basic = assert_fields(basic, Message::Basic, raw::write_basic, raw::read_basic);
-        let long = assert_fields(long, Message::Long, raw::write_long, raw::read_long);
-        if reception == 0x9A_BCDE {
-            assert_distinct(&basic);
-            assert_distinct(&long);
-        }
-    }
 }
 
 fn check_report(raw: raw::Report) {

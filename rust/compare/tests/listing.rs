@@ -10,7 +10,7 @@ use std::time::Duration;
 use reference::fcs::check_sequence;
 use reference::framing::{ESCAPE, FLAG, MESSAGE_MAX};
 use reference::listing::{list, listing, BLOCK, LIMIT};
-use reference::messages::LENGTHS;
+use reference::messages::{LENGTHS, RETIRED_IDS};
 use reference::recording::{between_flags, framed, mixed, readable_recording, tiny};
 use reference::samples::{damaged, whole};
 use reference::vectors::HEARTBEAT;
@@ -71,15 +71,26 @@ fn any_mixed(random: &mut Xorshift) -> Vec<u8> {
     mixed(random, length)
 }
 
-/// Messages of every kind, whole and damaged before they were framed.
+/// Messages of every kind, whole and damaged before they were framed, and retired
+/// ones.
 fn messages(random: &mut Xorshift) -> Vec<u8> {
     let count = random.below(400);
-    let one = |_| {
-        let (id, _) = LENGTHS[random.below(LENGTHS.len())];
-        let make = [whole, damaged][random.below(2)];
-        sent(&make(random, id))
+    let one = |_| match LENGTHS.get(random.below(LENGTHS.len() + 1)) {
+        Some(&(id, _)) => {
+            let make = [whole, damaged][random.below(2)];
+            sent(&make(random, id))
+        }
+        None => sent(&retired(random)),
     };
     (0..count).flat_map(one).collect()
+}
+
+/// Of any length.
+fn retired(random: &mut Xorshift) -> Vec<u8> {
+    let length = 1 + random.below(MESSAGE_MAX);
+    let mut message = random.message(length);
+    message[0] = RETIRED_IDS[random.below(RETIRED_IDS.len())];
+    message
 }
 
 fn garbage(random: &mut Xorshift) -> Vec<u8> {
@@ -98,7 +109,7 @@ fn generated_streams() {
         ("messages", messages),
         ("garbage", garbage),
     ];
-    let mut answers = [0; 9];
+    let mut answers = [0; 18];
     for (sort, make) in sorts {
         for seed in 1..=SEEDS {
             // Seeds that differ in few bits start alike.
@@ -109,10 +120,13 @@ fn generated_streams() {
             count_answers(&expected, &mut answers);
         }
     }
-    assert!(answers.iter().all(|&count| count > 50), "{answers:?}");
+    for (number, &count) in answers.iter().enumerate() {
+        let listed = matches!(number, 0..=8 | 17);
+        assert!(if listed { count > 50 } else { count == 0 }, "{answers:?}");
+    }
 }
 
-fn count_answers(listing: &[u8], answers: &mut [usize; 9]) {
+fn count_answers(listing: &[u8], answers: &mut [usize; 18]) {
     let text = String::from_utf8_lossy(listing);
     for line in text.lines().skip(1).filter(|line| !line.starts_with("end")) {
         let answer = line.split(' ').nth(2).expect("an answer");

@@ -8,9 +8,9 @@ use gdl90::raw::{self, WriteAnswer, BELOW, NONE, NUMBER, OVER};
 use gdl90::Error;
 use reference::messages::{
     AltitudeSteps, Climb, FiveFootSteps, GeometricAltitude, Heartbeat, Height, Merit, Message,
-    Report, Speed, TerrainFeet, BASIC_ID, GEOMETRIC_ID, HEARTBEAT_ID, HEIGHT_ID, INITIALIZATION_ID,
-    LENGTHS, LONG_ID, NOT_LISTED, OUTPUT_TOO_SHORT, OUT_OF_RANGE, OWNSHIP_ID, PAYLOAD_LENGTH,
-    RECEPTION_MAX, TRAFFIC_ID, UPLINK_ID, WRONG_LENGTH,
+    Report, Speed, TerrainFeet, GEOMETRIC_ID, HEARTBEAT_ID, HEIGHT_ID, INITIALIZATION_ID, LENGTHS,
+    NOT_LISTED, OUTPUT_TOO_SHORT, OUT_OF_RANGE, OWNSHIP_ID, PAYLOAD_LENGTH, RECEPTION_MAX, RETIRED,
+    RETIRED_IDS, TRAFFIC_ID, UPLINK_ID, WRONG_LENGTH,
 };
 use reference::samples;
 use reference::vectors::{HEARTBEAT, SALEM};
@@ -35,8 +35,6 @@ fn read_as(id: u8, message: &[u8]) -> Result<Message, u8> {
         OWNSHIP_ID => answer(raw::read_ownship(message)).map(gdl90::Message::Ownship),
         GEOMETRIC_ID => answer(raw::read_geometric(message)).map(gdl90::Message::Geometric),
         TRAFFIC_ID => answer(raw::read_traffic(message)).map(gdl90::Message::Traffic),
-        BASIC_ID => answer(raw::read_basic(message)).map(gdl90::Message::Basic),
-        LONG_ID => answer(raw::read_long(message)).map(gdl90::Message::Long),
         _ => panic!("no kind has the id {id}"),
     };
     value.map(to_reference)
@@ -75,12 +73,12 @@ fn uplink_answer(message: &[u8]) -> Result<gdl90::Uplink<'_>, u8> {
 }
 
 /// By the function that looks for the kind, and by the kind's own. There is no
-/// kind exactly if reading answers 6 (RULES 'Numbers').
+/// kind exactly if reading answers 6 or 17 (RULES 'Numbers').
 fn assert_readings_agree(message: &[u8]) {
     let expected = reference::messages::read(message);
     let kind = raw::kind(message);
     let expected_kind = match expected {
-        Err(NOT_LISTED) => (NOT_LISTED, 0),
+        Err(number @ (NOT_LISTED | RETIRED)) => (number, 0),
         _ => (0, message[0]),
     };
     assert_eq!((kind.number, kind.value), expected_kind, "{message:02X?}");
@@ -142,8 +140,6 @@ fn write_as(value: gdl90::Message, out: &mut [u8]) -> WriteAnswer {
         gdl90::Message::Ownship(report) => raw::write_ownship(report.into(), out),
         gdl90::Message::Geometric(geometric) => raw::write_geometric(geometric.into(), out),
         gdl90::Message::Traffic(report) => raw::write_traffic(report.into(), out),
-        gdl90::Message::Basic(basic) => raw::write_basic(basic.into(), out),
-        gdl90::Message::Long(long) => raw::write_long(long.into(), out),
         other => panic!("no function writes {other:?}"),
     }
 }
@@ -213,6 +209,24 @@ fn every_id_with_every_length_agrees() {
             for mut message in [vec![0; length], random.message(length)] {
                 message[0] = id;
                 assert_readings_agree(&message);
+            }
+        }
+    }
+}
+
+/// 17 whatever stands behind the id, and from nothing else; a kind's own function
+/// answers 6 (RULES 'Retired ids').
+#[test]
+fn retired_ids_are_retired_whatever_the_length() {
+    let mut random = Xorshift::new(29);
+    for id in RETIRED_IDS {
+        for length in 1..=440 {
+            let mut message = random.message(length);
+            message[0] = id;
+            assert_eq!(gdl90::Message::read(&message), Err(Error::Retired));
+            assert_eq!(Error::Retired.number(), RETIRED);
+            for (kind, _) in LENGTHS {
+                assert_eq!(read_as(kind, &message), Err(NOT_LISTED), "{message:02X?}");
             }
         }
     }
@@ -375,15 +389,6 @@ fn unknown_marks_are_refused() {
         uplink.reception_mark = mark
     });
     assert_marks(
-        raw::Basic::default(),
-        raw::write_basic,
-        NONE,
-        |basic, mark| basic.reception_mark = mark,
-    );
-    assert_marks(raw::Long::default(), raw::write_long, NONE, |long, mark| {
-        long.reception_mark = mark
-    });
-    assert_marks(
         raw::Height::default(),
         raw::write_height,
         NONE,
@@ -440,26 +445,13 @@ fn assert_written_alike<Raw: Copy + Debug>(
 
 #[test]
 fn numbers_with_marks_are_not_looked_at() {
-    let receptions = [0, u32::MAX];
-    let uplinks = receptions.map(|reception| raw::Uplink {
+    let uplinks = [0, u32::MAX].map(|reception| raw::Uplink {
         reception_mark: NONE,
         reception,
     });
     assert_written_alike(uplinks, |value, out| {
         raw::write_uplink(value, &[0; PAYLOAD_LENGTH], out)
     });
-    let basics = receptions.map(|reception| raw::Basic {
-        reception_mark: NONE,
-        reception,
-        ..raw::Basic::default()
-    });
-    assert_written_alike(basics, raw::write_basic);
-    let longs = receptions.map(|reception| raw::Long {
-        reception_mark: NONE,
-        reception,
-        ..raw::Long::default()
-    });
-    assert_written_alike(longs, raw::write_long);
     let heights = [0, i16::MIN].map(|feet| raw::Height {
         height_mark: NONE,
         height: gdl90::TerrainFeet(feet),

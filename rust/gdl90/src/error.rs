@@ -53,6 +53,8 @@ pub enum Error {
     /// A code that is no character of a text, a tab with no count behind it, as in
     /// data that were cut off, or a character to be written that has no code.
     NoCharacter = 16,
+    /// A message with id 30 or 31, basic and long pass-through, which are retired.
+    Retired = 17,
 }
 
 impl Error {
@@ -74,6 +76,7 @@ impl Error {
             14 => Self::NoTextHeader,
             15 => Self::NotText,
             16 => Self::NoCharacter,
+            17 => Self::Retired,
             _ => return None,
         })
     }
@@ -120,6 +123,7 @@ impl fmt::Display for Error {
             Self::NoCharacter => {
                 "a code is no character of a text, a tab has no count, or a character has no code"
             }
+            Self::Retired => "the message is of a retired kind",
         })
     }
 }
@@ -134,7 +138,7 @@ mod tests {
     fn numbers_there_and_back() {
         for number in 0..=255 {
             let error = Error::from_number(number);
-            let used = (1..=16).contains(&number) && number != 12;
+            let used = (1..=17).contains(&number) && number != 12;
             assert_eq!(error.is_some(), used, "{number}");
             assert_eq!(error.map_or(number, Error::number), number);
         }
@@ -142,9 +146,9 @@ mod tests {
 
     #[test]
     fn every_number_has_words_of_its_own() {
-        let errors = || (1..=16).filter_map(Error::from_number);
+        let errors = || (1..=17).filter_map(Error::from_number);
         let words: std::collections::HashSet<String> = errors().map(|e| e.to_string()).collect();
-        assert_eq!(words.len(), 15);
+        assert_eq!(words.len(), 16);
     }
 
     #[test]

@@ -1,5 +1,5 @@
 //! GDL 90 bytes, as receivers send them to a moving map: frames, collecting from
-//! a stream, the nine kinds of message, uplink payloads, weather texts.
+//! a stream, the seven kinds of message, uplink payloads, weather texts.
 //!
 //! The work is done by `libgdl90.a`, which is proved to do what its contracts say
 //! for every input; this crate gives it types. It needs nothing but the standard
@@ -50,23 +50,23 @@
 mod collecting;
 mod error;
 mod framing;
+mod information_frames;
 mod message;
 #[allow(unsafe_code)]
 pub mod raw;
 mod text;
 mod units;
-mod uplink;
 
 pub use collecting::{Answers, Collector, Fed, Received};
 pub use error::Error;
 pub use framing::{check_sequence, frame, framed, FRAME_MAX, MESSAGE_MAX};
-pub use message::{
-    BasicPassThrough, CallSign, Climb, GeometricAltitude, Heartbeat, HeightAboveTerrain,
-    Initialization, LongPassThrough, Merit, Message, PassThrough, Report, Speed, TrackKind, Uplink,
-};
-pub use text::{Text, LONGEST_TEXT};
-pub use units::{Degrees, GeometricSteps, Position, PressureSteps, TerrainFeet};
-pub use uplink::{
+pub use information_frames::{
     add_information_frame, information_frame, information_frames, InformationFrame,
     InformationFrames, PAYLOAD_LENGTH,
 };
+pub use message::{
+    CallSign, Climb, GeometricAltitude, Heartbeat, HeightAboveTerrain, Initialization, Merit,
+    Message, Report, Speed, TrackKind, Uplink,
+};
+pub use text::{Text, LONGEST_TEXT};
+pub use units::{Degrees, GeometricSteps, Position, PressureSteps, TerrainFeet};

@@ -1,17 +1,17 @@
-//! The nine kinds of message as typed values, 001 §3.
+//! The seven kinds of message as typed values, 001 §3.
 
 mod heights;
 mod marks;
-mod passing;
 mod report;
 mod status;
+mod uplink;
 
 use std::fmt;
 
 pub use heights::{GeometricAltitude, HeightAboveTerrain, Merit};
-pub use passing::{BasicPassThrough, LongPassThrough, PassThrough, Uplink};
 pub use report::{CallSign, Climb, Report, Speed, TrackKind};
 pub use status::{Heartbeat, Initialization};
+pub use uplink::Uplink;
 
 use crate::raw::{self, id, MESSAGE_MAX};
 use crate::Error;
@@ -55,10 +55,6 @@ pub enum Message<'a> {
     Geometric(GeometricAltitude),
     /// Id 20, 28 bytes.
     Traffic(Report),
-    /// Id 30, 22 bytes.
-    Basic(BasicPassThrough),
-    /// Id 31, 38 bytes.
-    Long(LongPassThrough),
 }
 
 impl<'a> Message<'a> {
@@ -68,7 +64,15 @@ impl<'a> Message<'a> {
     /// # Errors
     ///
     /// [`Error::UnknownId`] for an empty message or an id of no kind, then
+    /// [`Error::Retired`] for id 30 or 31 with whatever behind it, then
     /// [`Error::WrongLength`], then [`Error::OutOfRange`].
+    ///
+    /// ```
+    /// use gdl90::{Error, Message};
+    ///
+    /// // Of a basic pass-through, the id alone.
+    /// assert_eq!(Message::read(&[30]), Err(Error::Retired));
+    /// ```
     #[inline]
     pub fn read(message: &'a [u8]) -> Result<Self, Error> {
         Ok(match raw::kind(message).result()? {
@@ -80,8 +84,6 @@ impl<'a> Message<'a> {
             id::OWNSHIP => Self::Ownship(raw::read_ownship(message).result()?.try_into()?),
             id::GEOMETRIC => Self::Geometric(raw::read_geometric(message).result()?.try_into()?),
             id::TRAFFIC => Self::Traffic(raw::read_traffic(message).result()?.try_into()?),
-            id::BASIC => Self::Basic(raw::read_basic(message).result()?.try_into()?),
-            id::LONG => Self::Long(raw::read_long(message).result()?.try_into()?),
             id::HEARTBEAT => Self::Heartbeat(raw::read_heartbeat(message).result()?.try_into()?),
             other => panic!("the archive knows kind {other}, which this crate does not"),
         })
@@ -114,8 +116,6 @@ impl<'a> Message<'a> {
             Self::Ownship(report) => raw::write_ownship(report.into(), out),
             Self::Geometric(geometric) => raw::write_geometric(geometric.into(), out),
             Self::Traffic(report) => raw::write_traffic(report.into(), out),
-            Self::Basic(basic) => raw::write_basic(basic.into(), out),
-            Self::Long(long) => raw::write_long(long.into(), out),
         }
         .result()
     }
@@ -162,8 +162,6 @@ messages! {
     Uplink<'a> => Uplink;
     HeightAboveTerrain => Height;
     GeometricAltitude => Geometric;
-    BasicPassThrough => Basic;
-    LongPassThrough => Long;
 }
 
 impl fmt::Display for Message<'_> {
@@ -176,8 +174,6 @@ impl fmt::Display for Message<'_> {
             Self::Ownship(report) => write!(f, "ownship {report}"),
             Self::Geometric(geometric) => geometric.fmt(f),
             Self::Traffic(report) => write!(f, "traffic {report}"),
-            Self::Basic(basic) => write!(f, "basic {basic}"),
-            Self::Long(long) => write!(f, "long {long}"),
         }
     }
 }

@@ -9,9 +9,9 @@
 mod values;
 
 pub use values::{
-    id, Basic, DegreesAnswer, FeedAnswer, FeedControl, FrameAnswer, Geometric, Heartbeat, Height,
-    Initialization, ListAnswer, Long, NthAnswer, PassThrough, Read, Report, TextAnswer, Uplink,
-    WriteAnswer, BELOW, NONE, NUMBER, OVER,
+    id, DegreesAnswer, FeedAnswer, FeedControl, FrameAnswer, Geometric, Heartbeat, Height,
+    Initialization, ListAnswer, NthAnswer, Read, Report, TextAnswer, Uplink, WriteAnswer, BELOW,
+    NONE, NUMBER, OVER,
 };
 
 use crate::units::{GeometricSteps, PressureSteps, TerrainFeet};
@@ -124,7 +124,7 @@ macro_rules! readers {
 }
 
 readers! {
-    /// The id of the message's kind: 6.
+    /// The id of the message's kind: 6, 17.
     kind: gdl90_kind -> u8;
     /// A heartbeat's numbers: 6, 7, 8.
     read_heartbeat: gdl90_read_heartbeat -> Heartbeat;
@@ -141,10 +141,6 @@ readers! {
     read_geometric: gdl90_read_geometric -> Geometric;
     /// A traffic report's numbers: 6, 7, 8.
     read_traffic: gdl90_read_traffic -> Report;
-    /// A basic pass-through's numbers: 6, 7, 8.
-    read_basic: gdl90_read_basic -> Basic;
-    /// A long pass-through's numbers: 6, 7, 8.
-    read_long: gdl90_read_long -> Long;
 }
 
 /// Declares C functions that write one kind of message each, and wraps them.
@@ -178,10 +174,6 @@ writers! {
     write_geometric: gdl90_write_geometric(Geometric);
     /// A traffic report's message: 8, 9.
     write_traffic: gdl90_write_traffic(Report);
-    /// A basic pass-through's message: 8, 9.
-    write_basic: gdl90_write_basic(Basic);
-    /// A long pass-through's message: 8, 9.
-    write_long: gdl90_write_long(Long);
 }
 
 /// An uplink's message: 7 for a payload not of 432 bytes, 8, 9.

@@ -4,8 +4,7 @@ use std::fmt::Debug;
 
 use gdl90::raw::{self, BELOW, NONE, OVER};
 use gdl90::{
-    BasicPassThrough, CallSign, Collector, Error, GeometricAltitude, Heartbeat, HeightAboveTerrain,
-    LongPassThrough, Message, Report,
+    CallSign, Collector, Error, GeometricAltitude, Heartbeat, HeightAboveTerrain, Message, Report,
 };
 
 /// Marks up to the last that a field has become values; all others are 8
@@ -34,14 +33,6 @@ fn marks() {
     });
     assert_marks::<_, GeometricAltitude>(OVER, |merit_mark| raw::Geometric {
         merit_mark,
-        ..Default::default()
-    });
-    assert_marks::<_, BasicPassThrough>(NONE, |reception_mark| raw::Basic {
-        reception_mark,
-        ..Default::default()
-    });
-    assert_marks::<_, LongPassThrough>(NONE, |reception_mark| raw::Long {
-        reception_mark,
         ..Default::default()
     });
     // A bit, not a mark.

@@ -90,8 +90,6 @@ fn messages() -> Vec<String> {
             climb_mark, climb, track, emitter, call_sign, priority, spare
         }
         gdl90_geometric: Geometric { altitude, warning, merit_mark, merit }
-        gdl90_basic: Basic { reception_mark, reception, payload }
-        gdl90_long: Long { reception_mark, reception, payload }
     }
 }
 
@@ -104,8 +102,6 @@ fn answers() -> Vec<String> {
         gdl90_height_read: Read<Height> { number, value as height }
         gdl90_report_read: Read<Report> { number, value as report }
         gdl90_geometric_read: Read<Geometric> { number, value as geometric }
-        gdl90_basic_read: Read<Basic> { number, value as basic }
-        gdl90_long_read: Read<Long> { number, value as pass_through }
         gdl90_write_answer: WriteAnswer { number, length }
     }
 }

@@ -2,8 +2,8 @@
 
 use gdl90::{
     CallSign, Climb, GeometricAltitude, GeometricSteps, Heartbeat, HeightAboveTerrain,
-    Initialization, Merit, Message, PassThrough, Position, PressureSteps, Report, Speed,
-    TerrainFeet, Text, TrackKind, Uplink,
+    Initialization, Merit, Message, Position, PressureSteps, Report, Speed, TerrainFeet, Text,
+    TrackKind, Uplink,
 };
 
 fn assert_words<'a>(message: impl Into<Message<'a>>, words: &str) {
@@ -76,18 +76,12 @@ fn receptions() {
         "uplink, received 0.999999920 s into the second, payload of 432 bytes",
     );
     assert_words(
+        uplink(Some(1)),
+        "uplink, received 0.000000080 s into the second, payload of 432 bytes",
+    );
+    assert_words(
         uplink(None),
         "uplink, time of reception not known, payload of 432 bytes",
-    );
-    let (reception, payload) = (Some(1), [0; 18]);
-    assert_words(
-        PassThrough { reception, payload },
-        "basic pass-through, received 0.000000080 s into the second, payload of 18 bytes",
-    );
-    let (reception, payload) = (None, [0; 34]);
-    assert_words(
-        PassThrough { reception, payload },
-        "long pass-through, time of reception not known, payload of 34 bytes",
     );
 }
 

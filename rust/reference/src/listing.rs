@@ -14,9 +14,9 @@ pub const BLOCK: usize = 1 << 16;
 
 const HEADER: &[u8] = b"n at ans id len\n";
 
-/// The longest line: two numbers of ten digits, an answer, an id and a length,
-/// and a byte behind each.
-const LINE_MAX: usize = 11 + 11 + 2 + 4 + 4;
+/// Room for every line: two numbers of ten digits, an answer of two, an id and a
+/// length of three, and a byte behind each.
+const LINE_MAX: usize = 11 + 11 + 3 + 4 + 4;
 
 /// What ended a listing early.
 #[derive(Debug)]

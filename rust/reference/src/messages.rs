@@ -1,18 +1,18 @@
-//! The nine kinds of message as typed values, 001 §3 and RULES 'Messages'.
+//! The seven kinds of message as typed values, 001 §3 and RULES 'Messages'.
 
 mod fields;
 mod heartbeat;
 mod heights;
-mod received;
 mod report;
+mod uplink;
 
 pub use heartbeat::{Heartbeat, Initialization, TIME_MAX};
 pub use heights::{FiveFootSteps, GeometricAltitude, Height, Merit, TerrainFeet};
-pub use received::{Received, Uplink, PAYLOAD_LENGTH, RECEPTION_MAX};
 pub use report::{
     AltitudeSteps, Climb, Position, Report, Speed, TrackKind, ALTITUDE_MAX, CATEGORY_MAX,
     CLIMB_MAX, LATITUDE_MAX, SPEED_MAX,
 };
+pub use uplink::{Uplink, PAYLOAD_LENGTH, RECEPTION_MAX};
 
 use crate::framing::MESSAGE_MAX;
 use fields::exactly;
@@ -22,6 +22,7 @@ pub use crate::framing::OUTPUT_TOO_SHORT;
 pub const NOT_LISTED: u8 = 6;
 pub const WRONG_LENGTH: u8 = 7;
 pub const OUT_OF_RANGE: u8 = 8;
+pub const RETIRED: u8 = 17;
 
 /// Ids of 001 Table 2.
 pub const HEARTBEAT_ID: u8 = 0;
@@ -31,11 +32,13 @@ pub const HEIGHT_ID: u8 = 9;
 pub const OWNSHIP_ID: u8 = 10;
 pub const GEOMETRIC_ID: u8 = 11;
 pub const TRAFFIC_ID: u8 = 20;
-pub const BASIC_ID: u8 = 30;
-pub const LONG_ID: u8 = 31;
+
+/// Of basic and long pass-through (001 §3.6, RULES 'Retired ids'). Recordings hold
+/// them: they are framed and collected, and reading answers 17.
+pub const RETIRED_IDS: [u8; 2] = [30, 31];
 
 /// Each id with its length, the id included (RULES 'Messages').
-pub const LENGTHS: [(u8, usize); 9] = [
+pub const LENGTHS: [(u8, usize); 7] = [
     (HEARTBEAT_ID, 7),
     (INITIALIZATION_ID, 3),
     (UPLINK_ID, 436),
@@ -43,8 +46,6 @@ pub const LENGTHS: [(u8, usize); 9] = [
     (OWNSHIP_ID, 28),
     (GEOMETRIC_ID, 5),
     (TRAFFIC_ID, 28),
-    (BASIC_ID, 22),
-    (LONG_ID, 38),
 ];
 
 #[derive(Debug, PartialEq, Eq, Clone)]
@@ -56,11 +57,9 @@ pub enum Message {
     Ownship(Report),
     Geometric(GeometricAltitude),
     Traffic(Report),
-    Basic(Received<18>),
-    Long(Received<34>),
 }
 
-/// Checks 6, 7, 8 in this order (RULES 'Numbers').
+/// Checks 6, 17, 7, 8 in this order (RULES 'Numbers').
 pub fn read(message: &[u8]) -> Result<Message, u8> {
     let [id, fields @ ..] = message else {
         return Err(NOT_LISTED);
@@ -68,13 +67,12 @@ pub fn read(message: &[u8]) -> Result<Message, u8> {
     match *id {
         HEARTBEAT_ID => Heartbeat::read(exactly(fields)?).map(Message::Heartbeat),
         INITIALIZATION_ID => Initialization::read(exactly(fields)?).map(Message::Initialization),
-        UPLINK_ID => Uplink::read(fields).map(Message::Uplink),
+        UPLINK_ID => Uplink::read(exactly(fields)?).map(Message::Uplink),
         HEIGHT_ID => Height::read(exactly(fields)?).map(Message::Height),
         OWNSHIP_ID => Report::read(exactly(fields)?).map(Message::Ownship),
         GEOMETRIC_ID => GeometricAltitude::read(exactly(fields)?).map(Message::Geometric),
         TRAFFIC_ID => Report::read(exactly(fields)?).map(Message::Traffic),
-        BASIC_ID => Received::read(fields).map(Message::Basic),
-        LONG_ID => Received::read(fields).map(Message::Long),
+        id if RETIRED_IDS.contains(&id) => Err(RETIRED),
         _ => Err(NOT_LISTED),
     }
 }
@@ -92,13 +90,11 @@ pub fn write_into(message: &Message, out: &mut [u8]) -> Result<usize, u8> {
     match message {
         Message::Heartbeat(heartbeat) => put(HEARTBEAT_ID, &heartbeat.write()?, out),
         Message::Initialization(bytes) => put(INITIALIZATION_ID, &bytes.write(), out),
-        Message::Uplink(uplink) => put_received(UPLINK_ID, uplink.write()?, out),
+        Message::Uplink(uplink) => put(UPLINK_ID, &uplink.write()?, out),
         Message::Height(height) => put(HEIGHT_ID, &height.write()?, out),
         Message::Ownship(report) => put(OWNSHIP_ID, &report.write()?, out),
         Message::Geometric(geometric) => put(GEOMETRIC_ID, &geometric.write()?, out),
         Message::Traffic(report) => put(TRAFFIC_ID, &report.write()?, out),
-        Message::Basic(basic) => put_received(BASIC_ID, basic.write()?, out),
-        Message::Long(long) => put_received(LONG_ID, long.write()?, out),
     }
 }
 
@@ -109,16 +105,6 @@ pub fn put(id: u8, fields: &[u8], out: &mut [u8]) -> Result<usize, u8> {
     let out = out.get_mut(..length).ok_or(OUTPUT_TOO_SHORT)?;
     out[0] = id;
     out[1..].copy_from_slice(fields);
-    Ok(length)
-}
-
-/// Writes the id, the time of reception and the payload.
-fn put_received(id: u8, (time, payload): ([u8; 3], &[u8]), out: &mut [u8]) -> Result<usize, u8> {
-    let length = 1 + time.len() + payload.len();
-    let out = out.get_mut(..length).ok_or(OUTPUT_TOO_SHORT)?;
-    out[0] = id;
-    out[1..4].copy_from_slice(&time);
-    out[4..].copy_from_slice(payload);
     Ok(length)
 }
 
@@ -144,6 +130,7 @@ mod tests {
                 // Zeros are in range in every kind.
                 let answer = read(&with_id(id, vec![0; length]));
                 match listed {
+                    None if RETIRED_IDS.contains(&id) => assert_eq!(answer, Err(RETIRED)),
                     None => assert_eq!(answer, Err(NOT_LISTED)),
                     Some(kind) if kind.1 == length => assert!(answer.is_ok()),
                     Some(_) => {
@@ -151,6 +138,21 @@ mod tests {
                         let message = with_id(id, random.message(length));
                         assert_eq!(read(&message), Err(WRONG_LENGTH));
                     }
+                }
+            }
+        }
+    }
+
+    /// 17 comes before 7 and 8: neither the length nor a field matters.
+    #[test]
+    fn pass_through_is_retired() {
+        let retired = (0..=255).filter(|&id| read(&[id]) == Err(17));
+        assert_eq!(retired.collect::<Vec<u8>>(), [30, 31]);
+        let mut random = Xorshift::new(16);
+        for length in 1..=440 {
+            for message in [vec![0; length], vec![0xFF; length], random.message(length)] {
+                for (id, number) in [(29, 6), (30, 17), (31, 17), (32, 6)] {
+                    assert_eq!(read(&with_id(id, message.clone())), Err(number));
                 }
             }
         }
@@ -197,7 +199,7 @@ mod tests {
         }
     }
 
-    /// 8 comes before 9; 7 before 8 is shown in `received`.
+    /// 8 comes before 9; 7 before 8 is shown in `uplink`.
     #[test]
     fn range_is_checked_before_the_output() {
         let mut random = Xorshift::new(15);

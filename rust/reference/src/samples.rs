@@ -12,16 +12,11 @@ pub fn value(random: &mut Xorshift, id: u8) -> Message {
             first: byte(random),
             second: byte(random),
         }),
-        UPLINK_ID => Message::Uplink(Uplink {
-            reception: reception(random),
-            payload: random.message(PAYLOAD_LENGTH),
-        }),
+        UPLINK_ID => Message::Uplink(uplink(random)),
         HEIGHT_ID => Message::Height(height(random)),
         OWNSHIP_ID => Message::Ownship(report(random)),
         GEOMETRIC_ID => Message::Geometric(geometric(random)),
         TRAFFIC_ID => Message::Traffic(report(random)),
-        BASIC_ID => Message::Basic(received(random)),
-        LONG_ID => Message::Long(received(random)),
         _ => panic!("no kind has the id {id}"),
     }
 }
@@ -63,8 +58,6 @@ pub fn stretched(random: &mut Xorshift, id: u8) -> Message {
         Message::Height(Height(height)) => *height = Some(TerrainFeet(any(random) as i16)),
         Message::Geometric(geometric) => geometric.merit = Merit::Metres(any(random) as u16),
         Message::Ownship(report) | Message::Traffic(report) => stretch_report(random, report),
-        Message::Basic(basic) => basic.reception = Some(any(random) as u32),
-        Message::Long(long) => long.reception = Some(any(random) as u32),
     }
     value
 }
@@ -129,6 +122,14 @@ fn heartbeat(random: &mut Xorshift) -> Heartbeat {
     }
 }
 
+fn uplink(random: &mut Xorshift) -> Uplink {
+    let steps = within(random, 0, RECEPTION_MAX as i32) as u32;
+    Uplink {
+        reception: unless_none(random, steps),
+        payload: random.message(PAYLOAD_LENGTH),
+    }
+}
+
 fn height(random: &mut Xorshift) -> Height {
     let feet = within(random, -32_767, 32_767) as i16;
     Height(unless_none(random, TerrainFeet(feet)))
@@ -146,18 +147,6 @@ fn geometric(random: &mut Xorshift) -> GeometricAltitude {
             _ => Merit::Metres(within(random, 0, 0x7EED) as u16),
         },
     }
-}
-
-fn received<const N: usize>(random: &mut Xorshift) -> Received<N> {
-    Received {
-        reception: reception(random),
-        payload: bytes(random),
-    }
-}
-
-fn reception(random: &mut Xorshift) -> Option<u32> {
-    let steps = within(random, 0, RECEPTION_MAX as i32) as u32;
-    unless_none(random, steps)
 }
 
 fn report(random: &mut Xorshift) -> Report {
@@ -182,7 +171,7 @@ fn report(random: &mut Xorshift) -> Report {
         climb: climb(random),
         track: byte(random),
         emitter: byte(random),
-        call_sign: bytes(random),
+        call_sign: std::array::from_fn(|_| byte(random)),
         priority: byte(random) & 0xF,
         spare: byte(random) & 0xF,
     }
@@ -218,10 +207,6 @@ fn climb(random: &mut Xorshift) -> Climb {
 
 fn byte(random: &mut Xorshift) -> u8 {
     random.next_u64() as u8
-}
-
-fn bytes<const N: usize>(random: &mut Xorshift) -> [u8; N] {
-    std::array::from_fn(|_| byte(random))
 }
 
 fn unless_none<T>(random: &mut Xorshift, value: T) -> Option<T> {

@@ -2,12 +2,10 @@
 -- Assumes nothing.
 use mathlib.Core.Path.{refl, ap, _∙_}
 use Rattle.codec.proofs.Outcomes.{made}
-use Rattle.message_types.specs.declared.BasicRead.{BasicRead}
 use Rattle.message_types.specs.declared.GeometricRead.{GeometricRead}
 use Rattle.message_types.specs.declared.HeartbeatRead.{HeartbeatRead}
 use Rattle.message_types.specs.declared.HeightRead.{HeightRead}
 use Rattle.message_types.specs.declared.InitializationRead.{InitializationRead}
-use Rattle.message_types.specs.declared.LongRead.{LongRead}
 use Rattle.message_types.specs.declared.Report.{Report}
 use Rattle.message_types.specs.declared.Reading.the-variants.{Message as Accepted}
 use Rattle.c_report.specs.declared.FlatReportRead.{FlatReportRead}
@@ -93,23 +91,8 @@ as-reading-requires-7 c κs = search needs
 enum-told-8 : tie.Need-enum-told-8
 enum-told-8 c = search needs
 
-read-basic-pass-through-requires : tie.Need-read-basic-pass-through-requires
-read-basic-pass-through-requires c κs = search needs
-
-as-reading-requires-8 : tie.Need-as-reading-requires-8
-as-reading-requires-8 c κs = search needs
-
 enum-told-9 : tie.Need-enum-told-9
 enum-told-9 c = search needs
-
-read-long-pass-through-requires : tie.Need-read-long-pass-through-requires
-read-long-pass-through-requires c κs = search needs
-
-as-reading-requires-9 : tie.Need-as-reading-requires-9
-as-reading-requires-9 c κs = search needs
-
-enum-told-10 : tie.Need-enum-told-10
-enum-told-10 c = search needs
 
 returns : tie.Need-returns
 returns c =
@@ -153,17 +136,10 @@ returns-7 c =
     ∙ made _ _ _ _ _ _ _ _ _ (λ (a : FlatReportRead). asReading (a .number) (kind.Traffic (record { report = reportFrom (a .report) }))) (r .read-traffic .ensures) (λ x. ap (λ (y : Report). Accepted (kind.Traffic (record { report = y }))) (report-there-and-back x)) refl refl refl)
 
 returns-8 : tie.Need-returns-8
-returns-8 c =
-    let r = c .before .before in
-    of-kind _ (r .before .enum-told8 .given .1) (c .as-reading8 .ensures ∙ made _ _ _ _ _ _ _ _ _ (λ (a : BasicRead). asReading (a .number) (kind.Basic (a .basic))) (r .read-basic-pass-through .ensures) (λ x. refl) refl refl refl)
+returns-8 c = search needs
 
 returns-9 : tie.Need-returns-9
-returns-9 c =
-    let r = c .before .before in
-    of-kind _ (r .before .enum-told9 .given .1) (c .as-reading9 .ensures ∙ made _ _ _ _ _ _ _ _ _ (λ (a : LongRead). asReading (a .number) (kind.Long (a .long))) (r .read-long-pass-through .ensures) (λ x. refl) refl refl refl)
-
-returns-10 : tie.Need-returns-10
-returns-10 c = search needs
+returns-9 c = search needs
 
 pub read-as-spec : {M : Type 1} → statement M
 read-as-spec =
@@ -193,12 +169,7 @@ read-as-spec =
     report-from-requires-2
     as-reading-requires-7
     enum-told-8
-    read-basic-pass-through-requires
-    as-reading-requires-8
     enum-told-9
-    read-long-pass-through-requires
-    as-reading-requires-9
-    enum-told-10
     returns
     returns-2
     returns-3
@@ -207,5 +178,4 @@ read-as-spec =
     returns-6
     returns-7
     returns-8
-    returns-9
-    returns-10)
+    returns-9)

@@ -48,18 +48,6 @@ enum-known-message-7 c = search needs
 write-traffic-requires : tie.Need-write-traffic-requires
 write-traffic-requires c κs = search needs
 
-enum-known-message-8 : tie.Need-enum-known-message-8
-enum-known-message-8 c = search needs
-
-write-basic-pass-through-requires : tie.Need-write-basic-pass-through-requires
-write-basic-pass-through-requires c κs = search needs
-
-enum-known-message-9 : tie.Need-enum-known-message-9
-enum-known-message-9 c = search needs
-
-write-long-pass-through-requires : tie.Need-write-long-pass-through-requires
-write-long-pass-through-requires c κs = search needs
-
 same-length : tie.Need-same-length
 same-length c = search needs
 
@@ -102,18 +90,6 @@ same-length-7 c = search needs
 returns-7 : tie.Need-returns-7
 returns-7 c = wrote _ (c .before .before .before .before .before .message7 .given .1) refl (c .before .before .write-traffic .ensures)
 
-same-length-8 : tie.Need-same-length-8
-same-length-8 c = search needs
-
-returns-8 : tie.Need-returns-8
-returns-8 c = wrote _ (c .before .before .before .before .before .message8 .given .1) refl (c .before .before .write-basic-pass-through .ensures)
-
-same-length-9 : tie.Need-same-length-9
-same-length-9 c = search needs
-
-returns-9 : tie.Need-returns-9
-returns-9 c = wrote _ (c .before .before .before .before .before .message9 .given .1) refl (c .before .before .write-long-pass-through .ensures)
-
 pub write-spec : {M : Type 1} → statement M
 write-spec =
     tie.close
@@ -132,10 +108,6 @@ write-spec =
     write-geometric-requires
     enum-known-message-7
     write-traffic-requires
-    enum-known-message-8
-    write-basic-pass-through-requires
-    enum-known-message-9
-    write-long-pass-through-requires
     same-length
     returns
     same-length-2
@@ -149,8 +121,4 @@ write-spec =
     same-length-6
     returns-6
     same-length-7
-    returns-7
-    same-length-8
-    returns-8
-    same-length-9
-    returns-9)
+    returns-7)

@@ -7,17 +7,17 @@ use Rattle.passing.proofs.head_of.Tie as tie
 number-of-requires : tie.Need-number-of-requires
 number-of-requires c κs = search needs
 
-cast-t5 : tie.Need-cast-t5
-cast-t5 c = search needs
+cast-t4 : tie.Need-cast-t4
+cast-t4 c = search needs
 
-cast-t8 : tie.Need-cast-t8
-cast-t8 c = search needs
+cast-t7 : tie.Need-cast-t7
+cast-t7 c = search needs
 
-cast-t11 : tie.Need-cast-t11
-cast-t11 c = search needs
+cast-t10 : tie.Need-cast-t10
+cast-t10 c = search needs
 
 returns : tie.Need-returns
 returns c = simp (c .number-of .ensures)
 
 pub head-of-spec : {M : Type 1} → statement M
-head-of-spec = tie.close (tie.spec number-of-requires cast-t5 cast-t8 cast-t11 returns)
+head-of-spec = tie.close (tie.spec number-of-requires cast-t4 cast-t7 cast-t10 returns)

@@ -32,10 +32,6 @@ pub mod id {
     pub const GEOMETRIC: u8 = 11;
     /// Traffic report.
     pub const TRAFFIC: u8 = 20;
-    /// Basic pass-through.
-    pub const BASIC: u8 = 30;
-    /// Long pass-through.
-    pub const LONG: u8 = 31;
 }
 
 /// Answer of framing: the number, and the bytes written, 0 with a refusal.
@@ -139,30 +135,6 @@ pub struct Geometric {
     pub warning: bool,
     pub merit_mark: u8,
     pub merit: u16,
-}
-
-/// Numbers of a pass-through.
-#[repr(C)]
-#[derive(Clone, Copy, Debug, PartialEq, Eq)]
-pub struct PassThrough<const N: usize> {
-    pub reception_mark: u8,
-    pub reception: u32,
-    pub payload: [u8; N],
-}
-
-/// Numbers of a basic pass-through.
-pub type Basic = PassThrough<18>;
-/// Numbers of a long pass-through.
-pub type Long = PassThrough<34>;
-
-impl<const N: usize> Default for PassThrough<N> {
-    fn default() -> Self {
-        Self {
-            reception_mark: 0,
-            reception: 0,
-            payload: [0; N],
-        }
-    }
 }
 
 /// Answer of reading: the number, and the value, all zero with a refusal.

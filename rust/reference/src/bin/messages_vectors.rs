@@ -17,7 +17,7 @@ use reference::xorshift::Xorshift;
 
 /// For each id how many are made up: whole, damaged, of random bytes behind the
 /// id. Uplinks are long, so few.
-const MADE_UP: [(u8, [usize; 3]); 9] = [
+const MADE_UP: [(u8, [usize; 3]); 7] = [
     (HEARTBEAT_ID, [120, 80, 120]),
     (INITIALIZATION_ID, [30, 30, 30]),
     (UPLINK_ID, [4, 4, 2]),
@@ -25,8 +25,6 @@ const MADE_UP: [(u8, [usize; 3]); 9] = [
     (OWNSHIP_ID, [160, 80, 80]),
     (GEOMETRIC_ID, [120, 60, 80]),
     (TRAFFIC_ID, [160, 80, 80]),
-    (BASIC_ID, [40, 30, 40]),
-    (LONG_ID, [40, 30, 40]),
 ];
 
 /// What the input may have at most, in bytes.
@@ -72,8 +70,6 @@ fn write_accepted(out: &mut dyn Write, value: &Message) -> io::Result<()> {
         Message::Ownship(report) => write_report(out, "ownship", report)?,
         Message::Geometric(geometric) => write_geometric(out, geometric)?,
         Message::Traffic(report) => write_report(out, "traffic", report)?,
-        Message::Basic(basic) => write_received(out, "basic", basic)?,
-        Message::Long(long) => write_received(out, "long", long)?,
     }
     write!(out, " ")?;
     let written = write(value).expect("what was read can be written");
@@ -106,15 +102,6 @@ fn write_geometric(out: &mut dyn Write, geometric: &GeometricAltitude) -> io::Re
         Merit::Over => write!(out, " over"),
         Merit::None => write!(out, " none"),
     }
-}
-
-fn write_received<const N: usize>(
-    out: &mut dyn Write,
-    word: &str,
-    received: &Received<N>,
-) -> io::Result<()> {
-    write!(out, "{word} {} ", or_none(received.reception))?;
-    write_hex(out, &received.payload)
 }
 
 fn write_report(out: &mut dyn Write, word: &str, report: &Report) -> io::Result<()> {
@@ -160,6 +147,7 @@ fn records() -> Records {
     add_heights(&mut records);
     add_geometric(&mut records);
     add_receptions(&mut records, &mut random);
+    add_retired(&mut records, &mut random);
     add_reports(&mut records);
     add_positions(&mut records);
     add_made_up(&mut records, &mut random);
@@ -236,18 +224,44 @@ fn add_geometric(records: &mut Records) {
     }
 }
 
-/// Ends and marks of the time of reception, few of them in uplinks.
+/// Ends and mark of the time of reception, what is next to them, and others.
+const RECEPTIONS: [u32; 11] = [
+    0, 1, 256, 65_536, 0x80_0000, 12_499_998, 12_499_999, 12_500_000, 0xC0_0000, 0xFF_FFFE,
+    0xFF_FFFF,
+];
+
 fn add_receptions(records: &mut Records, random: &mut Xorshift) {
-    let edges = [12_499_999, 12_500_000, 0xFF_FFFE, 0xFF_FFFF];
-    let others = [0, 1, 256, 65_536, 12_499_998, 0x80_0000, 0xC0_0000];
-    for id in [UPLINK_ID, BASIC_ID, LONG_ID] {
-        let more = if id == UPLINK_ID { 0 } else { others.len() };
-        for steps in edges.iter().chain(&others[..more]) {
-            let mut message = whole(random, id);
-            message[1..4].copy_from_slice(&u32::to_le_bytes(*steps)[..3]);
-            records.push(message);
+    for steps in RECEPTIONS {
+        records.push(received_at(steps, whole(random, UPLINK_ID)));
+    }
+}
+
+/// The retired ids and those next to them: of few bytes, of as many as a message
+/// may have, and around 22 and 38, which pass-through had (001 §3.6). These two
+/// also with times of reception, good and not.
+fn add_retired(records: &mut Records, random: &mut Xorshift) {
+    for id in 29..=32 {
+        for length in [2, 3, 4, 5, 21, 22, 23, 37, 38, 39, 435, 436, 437] {
+            records.push(any_behind(random, id, length));
+        }
+        for length in [22, 38] {
+            for steps in RECEPTIONS {
+                records.push(received_at(steps, any_behind(random, id, length)));
+            }
         }
     }
+}
+
+fn received_at(steps: u32, mut message: Vec<u8>) -> Vec<u8> {
+    message[1..4].copy_from_slice(&steps.to_le_bytes()[..3]);
+    message
+}
+
+/// Random bytes behind the id.
+fn any_behind(random: &mut Xorshift, id: u8, length: usize) -> Vec<u8> {
+    let mut message = random.message(length);
+    message[0] = id;
+    message
 }
 
 /// Values of the letters of 001 Figure 2: first half byte behind the id, number
@@ -342,10 +356,6 @@ fn add_made_up(records: &mut Records, random: &mut Xorshift) {
         let [wholes, damages, others] = counts;
         records.extend((0..wholes).map(|_| whole(random, id)));
         records.extend((0..damages).map(|_| damaged(random, id)));
-        records.extend((0..others).map(|_| {
-            let mut message = random.message(length);
-            message[0] = id;
-            message
-        }));
+        records.extend((0..others).map(|_| any_behind(random, id, length)));
     }
 }

@@ -11,7 +11,7 @@ use reference::framing::{ESCAPE, FLAG};
 use reference::listing::listing;
 use reference::messages::{
     read, write, AltitudeSteps, Climb, FiveFootSteps, GeometricAltitude, Heartbeat, Height, Merit,
-    Message, Position, Received, Report, Speed, TerrainFeet, TrackKind, Uplink,
+    Message, Position, Report, Speed, TerrainFeet, TrackKind, Uplink,
 };
 use reference::payloads::samples_of_001;
 use reference::recording::framed;
@@ -51,7 +51,8 @@ fn recording() -> Vec<u8> {
     out
 }
 
-/// What each second has besides: the rarer kinds first, then every refusal.
+/// What each second has besides: the rarer kinds and the retired ids (17) first,
+/// then every other refusal.
 fn also(second: u16) -> Vec<u8> {
     match second {
         0 => framed(&INITIALIZATION),
@@ -150,22 +151,17 @@ fn uplink(n: usize) -> Vec<u8> {
     }))
 }
 
+/// Pass-through as old logs hold it (001 §3.6): received 0.4 s into a second.
 fn basic() -> Vec<u8> {
-    let (payload, _) = HEARD.split_first_chunk().expect("18 bytes");
-    bytes(Message::Basic(Received {
-        reception: Some(5_000_000),
-        payload: *payload,
-    }))
+    [&[30, 0x40, 0x4B, 0x4C], &HEARD[..18]].concat()
 }
 
+/// With no time of reception.
 fn long() -> Vec<u8> {
-    bytes(Message::Long(Received {
-        reception: None,
-        payload: HEARD,
-    }))
+    [&[31, 0xFF, 0xFF, 0xFF], &HEARD[..]].concat()
 }
 
-/// Basic and long pass-through with one flag between them.
+/// 17: basic and long pass-through with one flag between them.
 fn shared_flag() -> Vec<u8> {
     [&framed(&basic())[..], &framed(&long())[1..]].concat()
 }
@@ -259,7 +255,7 @@ mod tests {
     #[test]
     fn every_answer_occurs() {
         let (lines, end) = lines();
-        for number in 0..=8 {
+        for number in (0..=8).chain([17]) {
             let number = number.to_string();
             assert!(lines.iter().any(|line| line[0] == number), "{number}");
         }

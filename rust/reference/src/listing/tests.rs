@@ -1,7 +1,7 @@
 use std::cell::RefCell;
 
 use super::*;
-use crate::collecting::{answers, ROOM};
+use crate::collecting::{answers, Kept, ROOM};
 use crate::fcs::check_sequence;
 use crate::framing::{ESCAPE, MESSAGE_MAX};
 use crate::messages::{HEARTBEAT_ID, LENGTHS};
@@ -56,6 +56,7 @@ fn every_answer() {
         &framed(&[0x01, 0x02]),
         &framed(&HEARTBEAT[..6]),
         &framed(&late),
+        &framed(&[30, 0x02]),
     ]
     .concat();
     let expected = [
@@ -68,6 +69,7 @@ fn every_answer() {
         "7 490 6 1 2",
         "8 496 7 0 6",
         "9 506 8 0 7",
+        "10 517 17 30 2",
         "end 0 0",
     ];
     assert_eq!(lines(&stream), expected);
@@ -79,6 +81,22 @@ fn every_kind_is_read() {
     for (id, length) in LENGTHS {
         let line = format!("1 1 0 {id} {length}");
         assert_eq!(lines(&framed(&whole(&mut random, id))), [&line, "end 0 0"]);
+    }
+}
+
+/// Of every length they are framed and collected as other messages are.
+#[test]
+fn retired_ids_are_listed() {
+    let mut random = Xorshift::new(42);
+    for id in [30, 31] {
+        for length in 1..=MESSAGE_MAX {
+            let mut message = random.message_with_escapes(length, 1);
+            message[0] = id;
+            let stream = framed(&message);
+            let collected = Kept::new(stream.len() - 1, Answer::Message(&message));
+            assert_eq!(answers(&stream), Vec::from_iter(collected));
+            assert_eq!(lines(&stream)[0], format!("1 1 17 {id} {length}"));
+        }
     }
 }
 
@@ -109,9 +127,9 @@ fn offsets_are_behind_the_opening_flag() {
 
 #[test]
 fn longest_lines_fit() {
-    let line = answer_line(LIMIT, LIMIT, 8, Some((255, MESSAGE_MAX)));
+    let line = answer_line(LIMIT, LIMIT, 17, Some((255, MESSAGE_MAX)));
     assert_eq!(line.start, 0);
-    assert_eq!(&line.bytes, b"4294967295 4294967295 8 255 436\n");
+    assert_eq!(&line.bytes, b"4294967295 4294967295 17 255 436\n");
 }
 
 #[test]

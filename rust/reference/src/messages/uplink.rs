@@ -1,14 +1,14 @@
-//! Uplink and pass-through messages, which start with their time of reception:
-//! 001 §3.3 and §3.6.
+//! Uplink messages: a time of reception and a payload, 001 §3.3.
 
 use super::fields::{exactly, in_range};
-use super::WRONG_LENGTH;
 
 /// The last step of a second (001 §3.3.1).
 pub const RECEPTION_MAX: u32 = 12_499_999;
 const NO_RECEPTION: u32 = 0xFF_FFFF;
 
 pub const PAYLOAD_LENGTH: usize = 432;
+/// The time of reception and the payload.
+const FIELDS_LENGTH: usize = 3 + PAYLOAD_LENGTH;
 
 #[derive(Debug, PartialEq, Eq, Clone)]
 pub struct Uplink {
@@ -18,38 +18,20 @@ pub struct Uplink {
 }
 
 impl Uplink {
-    pub(super) fn read(fields: &[u8]) -> Result<Self, u8> {
-        let Received { reception, payload } = Received::<PAYLOAD_LENGTH>::read(fields)?;
-        let payload = payload.to_vec();
-        Ok(Self { reception, payload })
+    pub(super) fn read(fields: &[u8; FIELDS_LENGTH]) -> Result<Self, u8> {
+        let [low, middle, high, payload @ ..] = fields;
+        Ok(Self {
+            reception: read_reception([*low, *middle, *high])?,
+            payload: payload.to_vec(),
+        })
     }
 
-    /// The time, and the payload behind it.
-    pub(super) fn write(&self) -> Result<([u8; 3], &[u8]), u8> {
-        let payload = exactly::<PAYLOAD_LENGTH>(&self.payload)?;
-        Ok((write_reception(self.reception)?, payload))
-    }
-}
-
-/// Basic and long: 18 and 34 payload bytes.
-#[derive(Debug, PartialEq, Eq, Clone, Copy)]
-pub struct Received<const N: usize> {
-    /// Steps of 80 ns.
-    pub reception: Option<u32>,
-    pub payload: [u8; N],
-}
-
-impl<const N: usize> Received<N> {
-    pub(super) fn read(fields: &[u8]) -> Result<Self, u8> {
-        let (time, payload) = fields.split_first_chunk().ok_or(WRONG_LENGTH)?;
-        let payload = *exactly(payload)?;
-        let reception = read_reception(*time)?;
-        Ok(Self { reception, payload })
-    }
-
-    /// The time, and the payload behind it.
-    pub(super) fn write(&self) -> Result<([u8; 3], &[u8]), u8> {
-        Ok((write_reception(self.reception)?, &self.payload))
+    pub(super) fn write(&self) -> Result<[u8; FIELDS_LENGTH], u8> {
+        let payload: &[u8; PAYLOAD_LENGTH] = exactly(&self.payload)?;
+        let mut fields = [0; FIELDS_LENGTH];
+        fields[..3].copy_from_slice(&write_reception(self.reception)?);
+        fields[3..].copy_from_slice(payload);
+        Ok(fields)
     }
 }
 
@@ -71,7 +53,7 @@ fn write_reception(reception: Option<u32>) -> Result<[u8; 3], u8> {
 
 #[cfg(test)]
 mod tests {
-    use super::super::{read, write, Message, OUT_OF_RANGE};
+    use super::super::{read, write, Message, OUT_OF_RANGE, WRONG_LENGTH};
     use super::*;
 
     #[test]
@@ -102,15 +84,15 @@ mod tests {
 
     #[test]
     fn payload_starts_at_the_fifth_byte() {
-        let message: Vec<u8> = (0..38).map(|byte| byte ^ 31).collect();
-        let Ok(Message::Long(long)) = read(&message) else {
-            panic!("no long report");
+        let message: Vec<u8> = (0..436).map(|place| place as u8 ^ 7).collect();
+        let Ok(Message::Uplink(uplink)) = read(&message) else {
+            panic!("no uplink");
         };
-        assert_eq!(long.reception, Some(0x1C_1D_1E));
-        assert_eq!(long.payload, message[4..]);
+        assert_eq!(uplink.reception, Some(0x04_05_06));
+        assert_eq!(uplink.payload, message[4..]);
     }
 
-    /// 7 comes before 8, and is given for an uplink's payload only.
+    /// 7 comes before 8.
     #[test]
     fn uplink_payload_length() {
         for length in [0, 1, 431, 433, 436] {
