@@ -121,31 +121,23 @@ module _ {X R : Type 0} (id size : ℕ) (value : List ℕ → X) (good : X → B
   pick taken left s t u v =
       cond (eqb (cond s 6 (cond t (cond u 0 7) 6)) 0) (cond v (taken (value m)) (left 8)) (left (cond s 6 (cond t (cond u 0 7) 6)))
 
-  -- what is made of the answer
-  pub made : {S : Type 0} (taken : X → S) (left : ℕ → S) {r : R} (h : R → S) → r ≡ reading id size value good accepted refusal m
-      → ((x : X) → h (accepted x) ≡ taken x) → h (refusal 6) ≡ left 6 → h (refusal 7) ≡ left 7 → h (refusal 8) ≡ left 8
-      → h r ≡ reading id size value good taken left m
+  -- two answers to the same bytes: what holds of them for an accepted value, and for 6, 7 and 8, holds of them
+  pub alike : {S : Type 0} (taken : X → S) (left : ℕ → S) (Q : R → S → Type 0) → ((x : X) → Q (accepted x) (taken x))
+      → Q (refusal 6) (left 6) → Q (refusal 7) (left 7) → Q (refusal 8) (left 8)
+      → Q (reading id size value good accepted refusal m) (reading id size value good taken left m)
   unfolding reading misfit
-  made taken left h e a no-kind no-length no-range =
-      ap h e ∙ go (eqb (length m) 0) (eqb (getD m 0 0) id) (eqb (length m) size) (good (value m))
+  alike taken left Q a no-kind no-length no-range =
+      go (eqb (length m) 0) (eqb (getD m 0 0) id) (eqb (length m) size) (good (value m))
     where
-      go : (s t u v : Bool) → h (pick accepted refusal s t u v) ≡ pick taken left s t u v
+      go : (s t u v : Bool) → Q (pick accepted refusal s t u v) (pick taken left s t u v)
       go true t u v = no-kind
       go false false u v = no-kind
       go false true false v = no-length
       go false true true true = a (value m)
       go false true true false = no-range
 
-  -- what holds of an accepted value and of 6, 7 and 8 holds of the answer
-  pub of-reading : (P : R → Type 0) → ((x : X) → P (accepted x)) → P (refusal 6) → P (refusal 7) → P (refusal 8)
-      → P (reading id size value good accepted refusal m)
-  unfolding reading misfit
-  of-reading P a no-kind no-length no-range =
-      go (eqb (length m) 0) (eqb (getD m 0 0) id) (eqb (length m) size) (good (value m))
-    where
-      go : (s t u v : Bool) → P (pick accepted refusal s t u v)
-      go true t u v = no-kind
-      go false false u v = no-kind
-      go false true false v = no-length
-      go false true true true = a (value m)
-      go false true true false = no-range
+  -- what is made of the answer
+  pub made : {S : Type 0} (taken : X → S) (left : ℕ → S) {r : R} (h : R → S) → r ≡ reading id size value good accepted refusal m
+      → ((x : X) → h (accepted x) ≡ taken x) → h (refusal 6) ≡ left 6 → h (refusal 7) ≡ left 7 → h (refusal 8) ≡ left 8
+      → h r ≡ reading id size value good taken left m
+  made taken left h e a no-kind no-length no-range = ap h e ∙ alike taken left (λ x y. h x ≡ y) a no-kind no-length no-range

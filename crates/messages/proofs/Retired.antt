@@ -10,7 +10,7 @@ use lib.ListN.{length, getD}
 use borrow.Author.Tests.{ne-eqb}
 use Rattle.numbers.proofs.Every.{chosen}
 use Rattle.codec.specs.Reading.{reading}
-use Rattle.codec.proofs.Outcomes.{of-reading}
+use Rattle.codec.proofs.Outcomes.{alike}
 use Rattle.message_types.specs.declared.Message.{Message}
 use Rattle.message_types.specs.declared.Reading.the-variants.{Message as Accepted, Refused}
 use Rattle.messages.specs.declared.Kind.{Kind}
@@ -22,7 +22,7 @@ use Rattle.messages.specs.Claims.{Retired, basic, long, RetiredIs17}
 never : {X : Type 0} (id size : ℕ) (value : List ℕ → X) (good : X → Bool) (wrap : X → Message) (m : List ℕ)
     → readingNumber (reading id size value good (λ x. Accepted (wrap x)) Refused m) ≡ 17 → ⊥
 never id size value good wrap m =
-    of-reading id size value good (λ x. Accepted (wrap x)) Refused m (λ r. readingNumber r ≡ 17 → ⊥)
+    alike id size value good (λ x. Accepted (wrap x)) Refused m (λ x. Accepted (wrap x)) Refused (λ r s. readingNumber r ≡ 17 → ⊥)
     (λ x z. omega arith) (λ z. omega arith) (λ z. omega arith) (λ z. omega arith)
 
 by-kind : (k : Kind) (m : List ℕ) → readingNumber (readAs k m) ≡ 17 → kindNumber k ≡ 17
