@@ -14,7 +14,7 @@ extern int case_line; /* of the case under test, 0 for none */
 void check_frames(void);
 void check_messages(void);
 void check_reports(void);
-void check_uplinks(void);
+void check_information_frames(void);
 void check_texts(void);
 
 /* A case handed to a function that several share: a failure names its line too. */

@@ -304,7 +304,7 @@ int main(void)
     check_frames();
     check_messages();
     check_reports();
-    check_uplinks();
+    check_information_frames();
     check_texts();
     if (checks_failed > 0) {
         printf("%lu checks failed, %lu passed\n", checks_failed, checks_passed);

@@ -10,7 +10,7 @@ use borrow.Author.Tests.{ne-eqb, leb-true, leb-false}
 use Rattle.numbers.specs.Signed.{fieldOf}
 use Rattle.units.specs.declared.TerrainFeet.{TerrainFeet}
 use Rattle.units.specs.declared.PressureSteps.{PressureSteps}
-use Rattle.passing.specs.Reception.{goodReception}
+use Rattle.uplink.specs.Reception.{goodReception}
 use Rattle.altitudes.specs.Height.{goodHeight}
 use Rattle.altitudes.specs.Geometric.{goodMerit}
 use Rattle.report.specs.Marks.{stepsOr, knotsOr, climbOr}

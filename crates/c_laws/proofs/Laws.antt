@@ -25,9 +25,9 @@ use Rattle.altitudes.specs.Height.{terrainIn, goodTerrain, terrainBytes, height
 use Rattle.altitudes.specs.Geometric.{geometricIn, goodGeometric, geometricBytes, geometricRefused}
 use Rattle.altitudes.specs.Claims.{TypedHeight}
 use Rattle.altitudes.proofs.Back as altitudes
-use Rattle.passing.specs.Reception.{goodReception}
-use Rattle.passing.specs.Uplink.{uplinkIn, goodUplink, uplinkBytes, uplinkRefused, writingUplink}
-use Rattle.passing.proofs.Uplinks as uplinks
+use Rattle.uplink.specs.Reception.{goodReception}
+use Rattle.uplink.specs.Uplink.{uplinkIn, goodUplink, uplinkBytes, uplinkRefused, writingUplink}
+use Rattle.uplink.proofs.Uplinks as uplinks
 use Rattle.report.specs.Bytes.{reportIn, reportBytes}
 use Rattle.report.specs.Reading.{goodReport, reportAccepted, reportRefused}
 use Rattle.report.proofs.Marked.{kind-code, kind-fits}

@@ -13,7 +13,7 @@ use Rattle.heartbeat.specs.Heartbeat.{goodHeartbeat, heartbeatBytes}
 use Rattle.initialization.specs.Initialization.{goodInitialization, initializationBytes}
 use Rattle.altitudes.specs.Height.{heightRead, goodTerrain, terrainBytes}
 use Rattle.altitudes.specs.Geometric.{geometricRead, goodGeometric, geometricBytes}
-use Rattle.passing.specs.Uplink.{uplinkRead, uplinkBytes, writingUplink}
+use Rattle.uplink.specs.Uplink.{uplinkRead, uplinkBytes, writingUplink}
 use Rattle.message_types.specs.declared.Heartbeat.{Heartbeat}
 use Rattle.message_types.specs.declared.Initialization.{Initialization}
 use Rattle.message_types.specs.declared.Ownship.{Ownship}

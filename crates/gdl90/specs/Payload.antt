@@ -1,8 +1,8 @@
 -- The answers on an uplink payload's information frames, as C has them (RULES 'Structs for C'): the number, and the values, 0 with a refusal.
 -- Assumes nothing.
-use Rattle.uplink.specs.declared.FrameList.{FrameList}
-use Rattle.uplink.specs.declared.Found.{Found}
-use Rattle.uplink.specs.Answers.{listNumber, listCount, listEnd, foundNumber, foundFrame, dataStart}
+use Rattle.information_frames.specs.declared.FrameList.{FrameList}
+use Rattle.information_frames.specs.declared.Found.{Found}
+use Rattle.information_frames.specs.Answers.{listNumber, listCount, listEnd, foundNumber, foundFrame, dataStart}
 use Rattle.gdl90.specs.declared.ListAnswer.{ListAnswer}
 use Rattle.gdl90.specs.declared.NthAnswer.{NthAnswer}
 

@@ -12,14 +12,14 @@ ghost use Rattle.report.specs.Reading.{ownshipRead, trafficRead};
 ghost use Rattle.gdl90.specs.Messages.{kindAnswer, uplinkAnswer, heightAnswer, geometricAnswer, writeAnswer};
 ghost use Rattle.gdl90.specs.Messages.{WritesHeartbeat, WritesInitialization, WritesUplink, WritesHeight, WritesReport, WritesOwnship, WritesGeometric, WritesTraffic};
 ghost use Rattle.messages.specs.Message.{kindNumber};
-ghost use Rattle.uplink.specs.Walk.{payloadFrames};
-ghost use Rattle.uplink.specs.Answers.{frameList, nthFrame};
-ghost use Rattle.uplink.specs.Adding.{adding, addedNumber, payloadAfter};
+ghost use Rattle.information_frames.specs.Walk.{payloadFrames};
+ghost use Rattle.information_frames.specs.Answers.{frameList, nthFrame};
+ghost use Rattle.information_frames.specs.Adding.{adding, addedNumber, payloadAfter};
 ghost use Rattle.gdl90.specs.Collecting.{frameAnswer, phaseNumber, phaseOf, controlOf, feedAnswer, ranAnswer};
 ghost use Rattle.units.specs.Degrees.{inDegrees};
 ghost use Rattle.units.specs.Feet.{pressureFeet, geometricFeet, terrainFeet};
 ghost use Rattle.gdl90.specs.Payload.{listAnswer, nthAnswer};
-ghost use Rattle.uplink.specs.declared.Found.the-variants.{Refused};
+ghost use Rattle.information_frames.specs.declared.Found.the-variants.{Refused};
 ghost use Rattle.generic_text.specs.Product.{textWith};
 ghost use Rattle.gdl90.specs.Texts.{textAnswer, ReadsText, WritesText};
 ghost use Rattle.gdl90.specs.Degrees.{degreesAnswer, ExactAnswer};
@@ -37,6 +37,9 @@ use collecting::Control;
 use collecting::Phase;
 use framing::Framed;
 use generic_text::TextReading;
+use information_frames::Added;
+use information_frames::Found;
+use information_frames::FrameList;
 use message_types::Heartbeat;
 use message_types::HeartbeatRead;
 use message_types::Initialization;
@@ -48,9 +51,6 @@ use units::GeometricSteps;
 use units::InDegrees;
 use units::PressureSteps;
 use units::TerrainFeet;
-use uplink::Added;
-use uplink::Found;
-use uplink::FrameList;
 
 // 001 Table 9.
 const LAST_TRACK_KIND: u8 = 3;
@@ -265,7 +265,7 @@ pub extern "C" fn gdl90_read_initialization(message: &[u8]) -> InitializationRea
 pub extern "C" fn gdl90_read_uplink(message: &[u8]) -> FlatUplinkRead
     ensures { λ r. ⌜ r ≡ uplinkAnswer (now (message .entry)) ⌝ }
 {
-    let read = passing::read_uplink(message);
+    let read = uplink::read_uplink(message);
     let value = read.uplink;
     let uplink = c_structs::flat_uplink(value);
     FlatUplinkRead {
@@ -350,7 +350,7 @@ pub extern "C" fn gdl90_write_uplink(
     ensures { λ r. ⌜ WritesUplink uplink (now (payload .entry)) (now (out .entry)) r (now (out .exit)) ⌝ }
 {
     let value = c_structs::uplink_from(uplink);
-    let written = passing::write_uplink(value, payload, out);
+    let written = uplink::write_uplink(value, payload, out);
     write_answer(written)
 }
 
@@ -418,12 +418,12 @@ pub struct ListAnswer {
     pub end: usize,
 }
 
-// `uplink::list`.
+// `information_frames::list`.
 #[no_mangle]
 pub extern "C" fn gdl90_list(payload: &[u8]) -> ListAnswer
     ensures { λ r. ⌜ r ≡ listAnswer (frameList (payloadFrames (now (payload .entry)))) ⌝ }
 {
-    match uplink::list(payload) {
+    match information_frames::list(payload) {
         FrameList::Frames { count, end } => ListAnswer {
             number: 0,
             count,
@@ -447,12 +447,12 @@ pub struct NthAnswer {
     pub length: usize,
 }
 
-// `uplink::nth`.
+// `information_frames::nth`.
 #[no_mangle]
 pub extern "C" fn gdl90_nth(payload: &[u8], n: usize) -> NthAnswer
     ensures { λ r. ⌜ r ≡ nthAnswer (nthFrame (payloadFrames (now (payload .entry))) n) ⌝ }
 {
-    match uplink::nth(payload, n) {
+    match information_frames::nth(payload, n) {
         Found::Frame(f) => NthAnswer {
             number: 0,
             kind: f.kind,
@@ -476,13 +476,13 @@ fn no_frame(number: u8) -> NthAnswer
     }
 }
 
-// `uplink::add`: the number, 0 where the frame was added.
+// `information_frames::add`: the number, 0 where the frame was added.
 #[no_mangle]
 pub extern "C" fn gdl90_add(payload: &mut [u8], kind: u8, bytes: &[u8]) -> u8
     ensures answer { λ r. ⌜ r ≡ addedNumber (adding (payloadFrames (now (payload .entry))) kind (length (now (bytes .entry)))) ⌝ }
     ensures payload { λ _. ⌜ now (payload .exit) ≡ payloadAfter (adding (payloadFrames (now (payload .entry))) kind (length (now (bytes .entry)))) (now (payload .entry)) kind (now (bytes .entry)) ⌝ }
 {
-    match uplink::add(payload, kind, bytes) {
+    match information_frames::add(payload, kind, bytes) {
         Added::Done => 0,
         Added::Refused(k) => k,
     }

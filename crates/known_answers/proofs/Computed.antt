@@ -16,10 +16,10 @@ use Rattle.report.specs.Marks.{positionOf, altitudeOf, speedOf, climbOf}
 use Rattle.report.specs.Bytes.{reportIn}
 use Rattle.report.specs.Reading.{goodPosition, goodReport}
 use Rattle.messages.specs.Message.{kindIn, readMessage}
-use Rattle.uplink.specs.Walk.{framesBefore, walk, payloadFrames}
-use Rattle.uplink.specs.Answers.{frameList, dataIn}
-use Rattle.uplink.specs.Contents.{contentOf, contents}
-use Rattle.uplink.specs.Samples.{bytesOf, rows, textual}
+use Rattle.information_frames.specs.Walk.{framesBefore, walk, payloadFrames}
+use Rattle.information_frames.specs.Answers.{frameList, dataIn}
+use Rattle.information_frames.specs.Contents.{contentOf, contents}
+use Rattle.information_frames.specs.Samples.{bytesOf, rows, textual}
 use Rattle.characters.specs.Characters.{characterOf, placeIn, codeOf}
 use Rattle.generic_text.specs.Texts.{textOfCodes}
 use Rattle.generic_text.specs.Product.{decode, headerOf, codeBytes, encode}

@@ -21,12 +21,12 @@ use Rattle.message_types.specs.declared.Message.the-variants.{Heartbeat, Traffi
 use Rattle.message_types.specs.declared.Reading.{Reading}
 use Rattle.message_types.specs.declared.Reading.the-variants.{Message}
 use Rattle.messages.specs.Message.{readMessage}
-use Rattle.uplink.specs.declared.FrameList.{FrameList}
-use Rattle.uplink.specs.Frames.{lengthIn}
-use Rattle.uplink.specs.Walk.{payloadFrames}
-use Rattle.uplink.specs.Answers.{frameList}
-use Rattle.uplink.specs.Contents.{contents, payloadWith}
-use Rattle.uplink.specs.Samples.{bytesOf}
+use Rattle.information_frames.specs.declared.FrameList.{FrameList}
+use Rattle.information_frames.specs.Frames.{lengthIn}
+use Rattle.information_frames.specs.Walk.{payloadFrames}
+use Rattle.information_frames.specs.Answers.{frameList}
+use Rattle.information_frames.specs.Contents.{contents, payloadWith}
+use Rattle.information_frames.specs.Samples.{bytesOf}
 use Rattle.generic_text.specs.Product.{Decoded, decoded, refused, textWith, decode, encode}
 
 pub data Row : Type 0 where

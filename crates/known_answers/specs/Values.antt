@@ -6,8 +6,8 @@ use lib.IntN.{pos, negsuc}
 use Rattle.collecting.specs.Stream.{message, refused}
 use Rattle.message_types.specs.declared.Climb.the-variants.{Steps}
 use Rattle.message_types.specs.declared.Reading.the-variants.{Refused}
-use Rattle.uplink.specs.declared.FrameList.the-variants as uplink
-use Rattle.uplink.specs.Samples.{bytesOf, textual}
+use Rattle.information_frames.specs.declared.FrameList.the-variants as frames
+use Rattle.information_frames.specs.Samples.{bytesOf, textual}
 use Rattle.known_answers.specs.Row.{Row, sequence, frame, shortest, longest, between, read, feet, header, list, texts, rewritten, heartbeatWith, trafficMessage, trafficWith, reportOf, AllHold}
 
 abbrev pub starred : List Row
@@ -49,8 +49,8 @@ starred =
     ∷ header 0x96 0x00 300
     ∷ header 0x00 0x80 1
     ∷ header 0xD3 0x00 422
-    ∷ list 0xD3 0x00 (uplink.Frames 1 424)
-    ∷ list 0xD3 0x80 (uplink.Refused 11)
+    ∷ list 0xD3 0x00 (frames.Frames 1 424)
+    ∷ list 0xD3 0x80 (frames.Refused 11)
     ∷ []
 
 abbrev pub Starred : Type 0

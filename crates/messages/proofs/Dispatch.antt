@@ -10,7 +10,7 @@ use Rattle.message_types.specs.declared.Message.{Message}
 use Rattle.message_types.specs.declared.Message.the-variants.{Uplink as an-uplink}
 use Rattle.message_types.specs.declared.Reading.{Reading}
 use Rattle.message_types.specs.declared.Uplink.{Uplink}
-use Rattle.passing.specs.Uplink.{writingUplink, WroteUplink}
+use Rattle.uplink.specs.Uplink.{writingUplink, WroteUplink}
 use Rattle.messages.specs.declared.Kind.{Kind}
 use Rattle.messages.specs.Message.{readAs, messageBytes, goodMessage, goodPayload, writingMessage, WroteMessage}
 

@@ -18,13 +18,13 @@ use Rattle.heartbeat.specs.Heartbeat.{heartbeatIn, goodHeartbeat}
 use Rattle.initialization.specs.Initialization.{initializationIn, goodInitialization}
 use Rattle.altitudes.specs.Height.{terrainIn, goodTerrain, terrainBytes}
 use Rattle.altitudes.specs.Geometric.{geometricIn, goodGeometric, geometricBytes}
-use Rattle.passing.specs.Uplink.{uplinkIn, goodUplink, uplinkBytes, payloadOf}
+use Rattle.uplink.specs.Uplink.{uplinkIn, goodUplink, uplinkBytes, payloadOf}
 use Rattle.report.specs.Bytes.{reportIn, reportBytes}
 use Rattle.report.specs.Reading.{goodReport}
 use Rattle.heartbeat.proofs.Laws as heartbeats
 use Rattle.initialization.proofs.Laws as initializations
 use Rattle.altitudes.proofs.Back as altitudes
-use Rattle.passing.proofs.Uplinks as uplinks
+use Rattle.uplink.proofs.Uplinks as uplinks
 use Rattle.report.proofs.Laws as reports
 use Rattle.messages.specs.declared.Kind.{Kind}
 use Rattle.messages.specs.declared.Kind.the-variants as kind

@@ -11,7 +11,7 @@ use Rattle.message_types.specs.declared.Message.{Message}
 use Rattle.message_types.specs.declared.Message.the-variants.{Heartbeat, Initialization, Uplink, Height, Ownship, Geometric, Traffic}
 use Rattle.altitudes.specs.Claims.{TypedHeight}
 use Rattle.message_types.specs.declared.Reading.the-variants.{Refused}
-use Rattle.passing.specs.Uplink.{payloadOf}
+use Rattle.uplink.specs.Uplink.{payloadOf}
 use Rattle.messages.specs.Message.{messageBytes, goodMessage, goodPayload, carried, readMessage, readingNumber, readingValue}
 
 -- the two signed fields whose range is their 16-bit type are of that type

@@ -18,7 +18,7 @@ use Rattle.heartbeat.specs.Heartbeat.{goodHeartbeat, heartbeatBytes, readHeartb
 use Rattle.initialization.specs.Initialization.{goodInitialization, initializationBytes, readInitialization}
 use Rattle.altitudes.specs.Height.{goodTerrain, terrainBytes, readTerrain}
 use Rattle.altitudes.specs.Geometric.{goodGeometric, geometricBytes, readGeometric}
-use Rattle.passing.specs.Uplink.{goodUplink, uplinkBytes, readUplink}
+use Rattle.uplink.specs.Uplink.{goodUplink, uplinkBytes, readUplink}
 use Rattle.report.specs.Bytes.{ownshipBytes, trafficBytes}
 use Rattle.report.specs.Reading.{goodReport, readOwnship, readTraffic}
 use Rattle.messages.specs.declared.Kind.{Kind}

@@ -31,7 +31,7 @@ pub enum Kind {
     Unknown,
 }
 
-// The typed value of a message. An uplink's payload is `passing::payload` of it.
+// The typed value of a message. An uplink's payload is `uplink::payload` of it.
 pub fn read(message: &[u8]) -> Reading
     ensures { λ r. ⌜ r ≡ readMessage (now (message .entry)) ⌝ }
 {
@@ -80,7 +80,7 @@ fn read_as(kind: Kind, message: &[u8]) -> Reading
             as_reading(read.number, Message::Initialization(initialization))
         }
         Kind::Uplink => {
-            let read = passing::read_uplink(message);
+            let read = uplink::read_uplink(message);
             let uplink = read.uplink;
             as_reading(read.number, Message::Uplink(uplink))
         }
@@ -128,7 +128,7 @@ pub fn write(message: Message, payload: &[u8], out: &mut [u8]) -> Written
     match message {
         Message::Heartbeat(x) => heartbeat::write_heartbeat(x, out),
         Message::Initialization(x) => initialization::write_initialization(x, out),
-        Message::Uplink(x) => passing::write_uplink(x, payload, out),
+        Message::Uplink(x) => uplink::write_uplink(x, payload, out),
         Message::Height(x) => altitudes::write_height(x, out),
         Message::Ownship(x) => report::write_ownship(x, out),
         Message::Geometric(x) => altitudes::write_geometric(x, out),

@@ -244,7 +244,7 @@ fn print_read(part: &[u8]) {
         Reading::Message(message) => {
             print(b"0 ");
             print_message(message);
-            print_written(message, passing::payload(part));
+            print_written(message, uplink::payload(part));
         }
         Reading::Refused(n) => {
             io::print_decimal(STDOUT_FILENO, n as u64);

@@ -1,9 +1,3 @@
-pub mod Walking
-pub mod Scanning
-pub mod Refusing
-pub mod Answering
-pub mod Rows
-pub mod Copying
-pub mod Putting
-pub mod Growing
-pub mod Laws
+pub mod Parts
+pub mod Receptions
+pub mod Uplinks

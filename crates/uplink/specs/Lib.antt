@@ -1,7 +1,3 @@
-pub mod Frames
-pub mod Walk
-pub mod Answers
-pub mod Adding
-pub mod Contents
+pub mod Reception
+pub mod Uplink
 pub mod Claims
-pub mod Samples

@@ -1,214 +1,122 @@
-// The information frames of an uplink payload (001 §4; RULES 'Uplink payloads'): 8 bytes of header, then 424 of application data.
+// The uplink message (001 §3.3; RULES 'Uplink'): its time of reception, and its payload as a part of it.
 ghost use mathlib.Core.Path.{_≡_};
-ghost use mathlib.Core.Bool.{cond};
-ghost use mathlib.Core.List.{_++_};
-ghost use Prim.Native.Nat.{_+_, _-_, _≤_};
-ghost use lib.ListN.{length, take, replicate};
-ghost use lib.Seq.{paste};
-ghost use Rattle.uplink.specs.Frames.{headed, withValidBit};
-ghost use Rattle.uplink.specs.Walk.{payloadFrames};
-ghost use Rattle.uplink.specs.Answers.{scanned, frameList, nthFrame, DataPart};
-ghost use Rattle.uplink.specs.Adding.{isGood, withFrame, Adds};
+ghost use Prim.Native.Nat.{_≤_};
+ghost use lib.ListN.{length};
+ghost use Rattle.uplink.specs.Reception.{receptionOf, receptionIn, goodReception, receptionNumber};
+ghost use Rattle.uplink.specs.Uplink.{headBytes, uplinkRefused, uplinkRead, PayloadPart, WroteUplink};
+use codec::Written;
+use message_types::Reception;
+use message_types::Uplink;
+use message_types::UplinkRead;
 
-pub struct Frame {
-    // the byte of the application data at which its header of two bytes starts
-    pub at: usize,
-    // the bytes of data behind its header
-    pub length: usize,
-    pub reserved: u8,
-    // its type
-    pub kind: u8,
-}
+// 001 §3.3.1: the last step of a second, and the mark of none.
+const LAST_STEP: u32 = 12499999;
 
-pub enum FrameList {
-    // how many frames, and the byte of the application data at which their list ends
-    Frames { count: usize, end: usize },
-    // the number: 7, payload not 432 bytes; 11, a frame runs past the application data
-    Refused(u8),
-}
+const NO_STEP: u32 = 0xFFFFFF;
 
-pub enum Found {
-    Frame(Frame),
-    // the number: 7, 11 as of `list`; 13, no frame with that number
-    Refused(u8),
-}
-
-pub enum Added {
-    Done,
-    // the number: 7, 11 as of `list`; 8, a type over 15 or data not of 1 to 422 bytes; 9, no room
-    Refused(u8),
-}
-
-// What a walk finds: how many frames, the list's end, and the frame that was asked for.
-enum Walked {
-    Listed(usize, usize, Frame),
-    Refused(u8),
-}
-
-// How many frames a payload has.
-pub fn list(payload: &[u8]) -> FrameList
-    ensures { λ r. ⌜ r ≡ frameList (payloadFrames (now (payload .entry))) ⌝ }
+pub fn read_uplink(message: &[u8]) -> UplinkRead
+    ensures { λ r. ⌜ r ≡ uplinkRead (now (message .entry)) ⌝ }
 {
-    match scan(payload, 0) {
-        Walked::Listed(count, end, _) => FrameList::Frames { count, end },
-        Walked::Refused(k) => FrameList::Refused(k),
+    let misfit = codec::misfit(message, Uplink::ID, Uplink::LENGTH);
+    if misfit != 0 {
+        return uplink_refused(misfit);
     }
-}
-
-// Frame n, numbered from 0.
-pub fn nth(payload: &[u8], n: usize) -> Found
-    ensures { λ r. ⌜ r ≡ nthFrame (payloadFrames (now (payload .entry))) n ⌝ }
-{
-    match scan(payload, n) {
-        Walked::Listed(count, _, frame) => {
-            if n < count {
-                Found::Frame(frame)
-            } else {
-                Found::Refused(13)
-            }
+    let reception = reception_in(message);
+    if is_good_reception(reception) {
+        UplinkRead {
+            number: 0,
+            uplink: Uplink { reception },
         }
-        Walked::Refused(k) => Found::Refused(k),
+    } else {
+        uplink_refused(8)
     }
 }
 
-// The data of frame n, in the caller's own memory; an empty part on a refusal.
-pub fn data<'a>(payload: &'a [u8], n: usize) -> &'a [u8]
-    ensures { λ r. ⌜ DataPart (nthFrame (payloadFrames (now (payload .entry))) n) (now (payload .entry)) (payload .entry .ptr) (now r) (r .ptr) ⌝ }
+fn uplink_refused(number: u8) -> UplinkRead
+    ensures { λ r. ⌜ r ≡ uplinkRefused number ⌝ }
 {
-    match nth(payload, n) {
-        Found::Frame(f) => {
-            let start = f.at + 10;
-            let end = start + f.length;
-            &payload[start..end]
-        }
-        Found::Refused(_) => &payload[0..0],
+    let reception = Reception::Steps(0);
+    UplinkRead {
+        number,
+        uplink: Uplink { reception },
     }
 }
 
-// One frame more at the list's end.
-pub fn add(payload: &mut [u8], kind: u8, bytes: &[u8]) -> Added
-    ensures { λ r. ⌜ Adds (now (payload .entry)) kind (now (bytes .entry)) r (now (payload .exit)) ⌝ }
+// An uplink's payload, in the caller's own memory; of any other message an empty part.
+pub fn payload<'a>(message: &'a [u8]) -> &'a [u8]
+    ensures { λ r. ⌜ PayloadPart (now (message .entry)) (message .entry .ptr) (now r) (r .ptr) ⌝ }
 {
-    match list(payload) {
-        FrameList::Frames { count: _, end } => {
-            let n = bytes.len();
-            if !is_good(kind, n) {
-                return Added::Refused(8);
-            }
-            if 424 < end + 2 + n {
-                return Added::Refused(9);
-            }
-            put(payload, end, kind, bytes);
-            Added::Done
-        }
-        FrameList::Refused(k) => Added::Refused(k),
+    let read = read_uplink(message);
+    if read.number != 0 {
+        return &message[0..0];
     }
+    &message[4..]
 }
 
-// The walk over the application data, which remembers frame n.
-fn scan(payload: &[u8], n: usize) -> Walked
-    ensures { λ r. ⌜ r ≡ scanned n (payloadFrames (now (payload .entry))) ⌝ }
+pub fn write_uplink(uplink: Uplink, payload: &[u8], out: &mut [u8]) -> Written
+    ensures { λ r. ⌜ WroteUplink uplink (now (payload .entry)) (now (out .entry)) r (now (out .exit)) ⌝ }
 {
-    // none yet
-    let mut frame = header(0, 0, 0);
     if payload.len() != 432 {
-        return Walked::Refused(7);
+        return Written::Refused(7);
     }
-    // bit 5 of the seventh header byte
-    if payload[6] / 32 % 2 != 1 {
-        return Walked::Listed(0, 0, frame);
+    let reception = uplink.reception;
+    if !is_good_reception(reception) {
+        return Written::Refused(8);
     }
-    let mut at = 0;
-    let mut count = 0;
-    while at < 423 {
-        let f = header(at, payload[at + 8], payload[at + 9]);
-        let size = f.length;
-        if size == 0 {
-            return Walked::Listed(count, at, frame);
-        }
-        if 422 - at < size {
-            return Walked::Refused(11);
-        }
-        frame = kept(count == n, f, frame);
-        count += 1;
-        at += size + 2;
+    if out.len() < Uplink::LENGTH {
+        return Written::Refused(9);
     }
-    Walked::Listed(count, at, frame)
+    let head = head_of(reception);
+    codec::put(&head, out);
+    codec::put(payload, &mut out[4..]);
+    Written::Bytes(Uplink::LENGTH)
 }
 
-// The frame at byte `at` whose header is the bytes a and b: nine bits of length: the first byte whole and bit 7 of the next;
-// three reserved bits; type in four.
-fn header(at: usize, a: u8, b: u8) -> Frame
-    ensures { λ r. ⌜ r ≡ headed at a b ⌝ }
+fn reception_in(message: &[u8]) -> Reception
+    requires { ⌜ 4 ≤ length (now message) ⌝ }
+    ensures { λ r. ⌜ r ≡ receptionIn (now (message .entry)) ⌝ }
 {
-    Frame {
-        at,
-        length: (a as usize) * 2 + (b as usize) / 128,
-        reserved: b / 16 % 8,
-        kind: b % 16,
+    reception_of(message[1], message[2], message[3])
+}
+
+fn reception_of(low: u8, middle: u8, high: u8) -> Reception
+    ensures { λ r. ⌜ r ≡ receptionOf low middle high ⌝ }
+{
+    let steps = (high as u32) * 65536 + (middle as u32) * 256 + (low as u32);
+    if steps == NO_STEP {
+        Reception::None
+    } else {
+        Reception::Steps(steps)
     }
 }
 
-// The frame to remember: this one where it is the one asked for.
-fn kept(this: bool, f: Frame, g: Frame) -> Frame
-    ensures { λ r. ⌜ r ≡ cond this f g ⌝ }
+fn is_good_reception(reception: Reception) -> bool
+    ensures { λ r. ⌜ r ≡ goodReception reception ⌝ }
 {
-    if this { f } else { g }
+    let Reception::Steps(steps) = reception else {
+        return true;
+    };
+    steps <= LAST_STEP
 }
 
-// A type of four bits, and 1 to 422 bytes of data.
-fn is_good(kind: u8, n: usize) -> bool
-    ensures { λ r. ⌜ r ≡ isGood kind n ⌝ }
+// What stands before the payload.
+fn head_of(reception: Reception) -> [u8; 4]
+    ensures { λ r. ⌜ r ≡ headBytes reception ⌝ }
 {
-    (kind <= 15) & (1 <= n) & (n <= 422)
+    let n = number_of(reception);
+    [
+        Uplink::ID,
+        (n % 256) as u8,
+        (n / 256 % 256) as u8,
+        (n / 65536 % 256) as u8,
+    ]
 }
 
-// A frame at byte `end`, zeros behind it, and the valid bit set.
-fn put(payload: &mut [u8], end: usize, kind: u8, bytes: &[u8])
-    requires { ⌜ (length (now payload) ≡ 432) × (end + 2 + length (now bytes) ≤ 424) × (kind ≤ 15) ⌝ }
-    ensures { λ _. ⌜ now (payload .exit) ≡ withFrame (now (payload .entry)) end kind (now (bytes .entry)) ⌝ }
+fn number_of(reception: Reception) -> u32
+    ensures { λ r. ⌜ r ≡ receptionNumber reception ⌝ }
 {
-    let n = bytes.len();
-    payload[6] = with_valid_bit(payload[6]);
-    payload[end + 8] = (n / 2) as u8;
-    payload[end + 9] = (n % 2 * 128) as u8 + kind;
-    fill_from(payload, end + 10, bytes);
-}
-
-// Bit 5 set, the other bits as they were.
-fn with_valid_bit(b: u8) -> u8
-    ensures { λ r. ⌜ r ≡ withValidBit b ⌝ }
-{
-    b + (1 - b / 32 % 2) * 32
-}
-
-// The bytes from byte `at` on, and zeros behind them.
-fn fill_from(payload: &mut [u8], at: usize, bytes: &[u8])
-    requires { ⌜ (length (now payload) ≡ 432) × (at + length (now bytes) ≤ 432) ⌝ }
-    ensures { λ _. ⌜ now (payload .exit) ≡ take at (now (payload .entry)) ++ (now (bytes .entry) ++ replicate (432 - (at + length (now (bytes .entry)))) 0) ⌝ }
-{
-    copy_to(payload, at, bytes);
-    clear_from(payload, at + bytes.len());
-}
-
-fn copy_to(payload: &mut [u8], at: usize, bytes: &[u8])
-    requires { ⌜ at + length (now bytes) ≤ length (now payload) ⌝ }
-    ensures { λ _. ⌜ now (payload .exit) ≡ paste (now (payload .entry)) at (now (bytes .entry)) (length (now (bytes .entry))) ⌝ }
-{
-    let mut i = 0;
-    while i < bytes.len() {
-        payload[at + i] = bytes[i];
-        i += 1;
-    }
-}
-
-fn clear_from(payload: &mut [u8], at: usize)
-    requires { ⌜ at ≤ length (now payload) ⌝ }
-    ensures { λ _. ⌜ now (payload .exit) ≡ take at (now (payload .entry)) ++ replicate (length (now (payload .entry)) - at) 0 ⌝ }
-{
-    let mut i = 0;
-    while i < payload.len() - at {
-        payload[at + i] = 0;
-        i += 1;
+    match reception {
+        Reception::Steps(steps) => steps,
+        Reception::None => NO_STEP,
     }
 }

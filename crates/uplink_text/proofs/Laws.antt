@@ -8,15 +8,15 @@ use lib.ListN.{length, getD, take, length-append, length-map, List·getD-map}
 use lib.Seq.{getD-append-seam, getD-at}
 use borrow.Author.Tests.{lt-ltb}
 use Rattle.numbers.specs.Lent.{written, stretch, behind}
-use Rattle.passing.specs.Uplink.{payloadStart, payloadOf}
-use Rattle.uplink.specs.declared.Frame.{Frame}
-use Rattle.uplink.specs.declared.Found.{Found}
-use Rattle.uplink.specs.declared.Found.the-variants as nth
-use Rattle.uplink.specs.Walk.{Frames, listed, payloadFrames}
-use Rattle.uplink.specs.Answers.{none, nthFrame, dataStart, foundFrame, dataIn}
-use Rattle.uplink.specs.Contents.{Content, contentOf, framesIn, contents, newFrame, newContent}
-use Rattle.uplink.proofs.Laws as uplink
-use Rattle.uplink_message.specs.Frames.{messageFrames}
+use Rattle.uplink.specs.Uplink.{payloadStart, payloadOf}
+use Rattle.information_frames.specs.declared.Frame.{Frame}
+use Rattle.information_frames.specs.declared.Found.{Found}
+use Rattle.information_frames.specs.declared.Found.the-variants as nth
+use Rattle.information_frames.specs.Walk.{Frames, listed, payloadFrames}
+use Rattle.information_frames.specs.Answers.{none, nthFrame, dataStart, foundFrame, dataIn}
+use Rattle.information_frames.specs.Contents.{Content, contentOf, framesIn, contents, newFrame, newContent}
+use Rattle.information_frames.proofs.Laws as uplink
+use Rattle.uplink_frames.specs.Frames.{messageFrames}
 use Rattle.generic_text.specs.declared.TextReading.the-variants as read
 use Rattle.generic_text.specs.Product.{Decoded, decode}
 use Rattle.generic_text.specs.Answers.{textReading, ReadText}

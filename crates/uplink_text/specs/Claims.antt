@@ -6,15 +6,15 @@ use mathlib.Core.List.{List}
 use lib.ListN.{length, take}
 use Rattle.numbers.specs.Lent.{behind}
 use Rattle.codec.specs.declared.Written.the-variants.{Bytes}
-use Rattle.passing.specs.Uplink.{payloadStart, payloadOf}
-use Rattle.uplink.specs.declared.Frame.{Frame}
-use Rattle.uplink.specs.declared.Found.the-variants as nth
-use Rattle.uplink.specs.declared.Added.the-variants.{Done}
-use Rattle.uplink.specs.Walk.{listed, payloadFrames}
-use Rattle.uplink.specs.Answers.{nthFrame, DataPart}
-use Rattle.uplink.specs.Adding.{Adds}
-use Rattle.uplink.specs.Contents.{newFrame}
-use Rattle.uplink_message.specs.Frames.{messageFrames}
+use Rattle.uplink.specs.Uplink.{payloadStart, payloadOf}
+use Rattle.information_frames.specs.declared.Frame.{Frame}
+use Rattle.information_frames.specs.declared.Found.the-variants as nth
+use Rattle.information_frames.specs.declared.Added.the-variants.{Done}
+use Rattle.information_frames.specs.Walk.{listed, payloadFrames}
+use Rattle.information_frames.specs.Answers.{nthFrame, DataPart}
+use Rattle.information_frames.specs.Adding.{Adds}
+use Rattle.information_frames.specs.Contents.{newFrame}
+use Rattle.uplink_frames.specs.Frames.{messageFrames}
 use Rattle.generic_text.specs.declared.TextReading.{TextReading}
 use Rattle.generic_text.specs.Product.{Text, decoded, decode}
 use Rattle.generic_text.specs.Answers.{ReadText, WroteText}

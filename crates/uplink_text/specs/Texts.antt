@@ -2,11 +2,11 @@
 -- Assumes nothing.
 use Prim.Native.Nat.{ℕ}
 use mathlib.Core.List.{List}
-use Rattle.passing.specs.Uplink.{payloadOf}
-use Rattle.uplink.specs.declared.Found.{Found}
-use Rattle.uplink.specs.declared.Found.the-variants as nth
-use Rattle.uplink.specs.Answers.{nthFrame, dataIn}
-use Rattle.uplink_message.specs.Frames.{messageFrames}
+use Rattle.uplink.specs.Uplink.{payloadOf}
+use Rattle.information_frames.specs.declared.Found.{Found}
+use Rattle.information_frames.specs.declared.Found.the-variants as nth
+use Rattle.information_frames.specs.Answers.{nthFrame, dataIn}
+use Rattle.uplink_frames.specs.Frames.{messageFrames}
 use Rattle.generic_text.specs.Product.{Decoded, refused, decode}
 
 -- the text that a frame's data hold, or the number with which the frame is refused

@@ -11,12 +11,12 @@
 ghost use Prim.Native.Nat.{_+_, _≤_, _<_};
 ghost use lib.ListN.{length};
 use generic_text::TextReading;
+use information_frames::Added;
+use information_frames::Found;
+use information_frames::FrameList;
 use libc::STDERR_FILENO;
 use libc::STDIN_FILENO;
 use libc::STDOUT_FILENO;
-use uplink::Added;
-use uplink::Found;
-use uplink::FrameList;
 
 fn print(text: &[u8]) {
     io::write_all(STDOUT_FILENO, text);
@@ -44,15 +44,21 @@ fn print_frame(found: Found, data: &[u8]) {
 fn print_frames(payload: &[u8], count: usize) {
     let mut n = 0;
     while n < count {
-        print_frame(uplink::nth(payload, n), uplink::data(payload, n));
+        print_frame(
+            information_frames::nth(payload, n),
+            information_frames::data(payload, n),
+        );
         n += 1;
     }
-    print_frame(uplink::nth(payload, count), uplink::data(payload, count));
+    print_frame(
+        information_frames::nth(payload, count),
+        information_frames::data(payload, count),
+    );
 }
 
 fn print_list(payload: &[u8]) {
     print(b"list");
-    match uplink::list(payload) {
+    match information_frames::list(payload) {
         FrameList::Frames { count, end } => {
             print_counts(count, end);
             print_frames(payload, count);
@@ -91,8 +97,8 @@ fn print_text(message: &[u8], n: usize) {
 
 fn print_message_frame(message: &[u8], n: usize) {
     print_frame(
-        uplink_message::nth(message, n),
-        uplink_message::data(message, n),
+        uplink_frames::nth(message, n),
+        uplink_frames::data(message, n),
     );
     print_text(message, n);
 }
@@ -109,7 +115,7 @@ fn print_message_frames(message: &[u8], count: usize) {
 
 fn print_message_list(message: &[u8]) {
     print(b"list");
-    match uplink_message::list(message) {
+    match uplink_frames::list(message) {
         FrameList::Frames { count, end } => {
             print_counts(count, end);
             print_message_frames(message, count);
@@ -121,7 +127,7 @@ fn print_message_list(message: &[u8]) {
 
 fn print_added(payload: &mut [u8; 432], kind: u8, bytes: &[u8]) {
     print(b"add");
-    match uplink::add(payload, kind, bytes) {
+    match information_frames::add(payload, kind, bytes) {
         Added::Done => print_number(0),
         Added::Refused(k) => print_number(k as usize),
     }
@@ -150,7 +156,7 @@ fn answer(letter: u8, part: &[u8], payload: &mut [u8; 432]) {
         print_list(payload);
     } else if letter == b'M' {
         print_message_list(part);
-        keep(passing::payload(part), payload);
+        keep(uplink::payload(part), payload);
     } else {
         print_list(part);
         keep(part, payload);

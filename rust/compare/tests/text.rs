@@ -4,11 +4,11 @@ use std::hint::black_box;
 
 use gdl90::raw::{self, TextAnswer, WriteAnswer};
 use gdl90::{add_information_frame, information_frames, Error, Text, LONGEST_TEXT};
+use reference::information_frames::{list, FRAME_DATA_MAX};
 use reference::messages::{OUTPUT_TOO_SHORT, OUT_OF_RANGE, PAYLOAD_LENGTH};
 use reference::payloads::samples_of_001;
 use reference::text::{self, END, NOT_TEXT, NO_CHARACTER, NO_HEADER, TAB};
 use reference::texts::{any_codes, any_text, code_of, damaged, packed, whole, HEADER};
-use reference::uplink::{list, FRAME_DATA_MAX};
 use reference::xorshift::Xorshift;
 
 const ROUNDS: usize = 20_000;

@@ -5,6 +5,7 @@
 pub mod collecting;
 pub mod fcs;
 pub mod framing;
+pub mod information_frames;
 pub mod listing;
 pub mod messages;
 pub mod payloads;
@@ -12,6 +13,5 @@ pub mod recording;
 pub mod samples;
 pub mod text;
 pub mod texts;
-pub mod uplink;
 pub mod vectors;
 pub mod xorshift;

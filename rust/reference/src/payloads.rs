@@ -1,11 +1,11 @@
 //! Uplink payloads: the samples of 001, and made-up ones, whole and damaged, the
 //! same for the same seed.
 
-use crate::messages::PAYLOAD_LENGTH;
-use crate::recording::flip_bits;
-use crate::uplink::{
+use crate::information_frames::{
     end, list, DATA_LENGTH, FRAME_DATA_MAX, FRAME_HEADER_LENGTH, HEADER_LENGTH, VALID, VALID_AT,
 };
+use crate::messages::PAYLOAD_LENGTH;
+use crate::recording::flip_bits;
 use crate::xorshift::Xorshift;
 
 /// First of the two graphic samples of 001 §5.1.4, without the zeros behind it.
@@ -148,8 +148,8 @@ fn flip_header(random: &mut Xorshift, payload: &mut [u8]) {
 #[cfg(test)]
 mod tests {
     use super::*;
+    use crate::information_frames::PAST_THE_DATA;
     use crate::messages::WRONG_LENGTH;
-    use crate::uplink::PAST_THE_DATA;
 
     const ROUNDS: usize = 5_000;
 

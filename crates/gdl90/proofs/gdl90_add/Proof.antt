@@ -1,7 +1,7 @@
--- `gdl90::gdl90_add` meets its contract: what `uplink::add` answers and leaves.
+-- `gdl90::gdl90_add` meets its contract: what `information_frames::add` answers and leaves.
 -- Assumes nothing.
 use mathlib.Core.Path.{sym, ap, _∙_}
-use Rattle.uplink.specs.Adding.{addedNumber}
+use Rattle.information_frames.specs.Adding.{addedNumber}
 use borrow.Author.Needs.{needs}
 use Rattle.gdl90.proofs.gdl90_add.Statement.{statement}
 use Rattle.gdl90.proofs.gdl90_add.Tie as tie

@@ -1,4 +1,4 @@
--- `gdl90::gdl90_list` meets its contract: what `uplink::list` answers.
+-- `gdl90::gdl90_list` meets its contract: what `information_frames::list` answers.
 -- Assumes nothing.
 use mathlib.Core.Path.{sym, ap, _∙_}
 use Rattle.gdl90.specs.Payload.{listAnswer}

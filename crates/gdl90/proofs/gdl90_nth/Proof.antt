@@ -1,8 +1,8 @@
--- `gdl90::gdl90_nth` meets its contract: what `uplink::nth` answers.
+-- `gdl90::gdl90_nth` meets its contract: what `information_frames::nth` answers.
 -- Assumes nothing.
 use mathlib.Core.Path.{sym, ap, _∙_}
 use native.Mathlib.Omega.{arith}
-use Rattle.uplink.proofs.Rows.{inside}
+use Rattle.information_frames.proofs.Rows.{inside}
 use Rattle.gdl90.specs.Payload.{nthAnswer}
 use borrow.Author.Needs.{needs}
 use Rattle.gdl90.proofs.gdl90_nth.Statement.{statement}

@@ -2,7 +2,7 @@
 -- Assumes nothing.
 use lib.ListN.{length}
 use Rattle.message_types.specs.declared.Uplink.{Uplink}
-use Rattle.passing.specs.Uplink.{uplinkBytes, writingUplink}
+use Rattle.uplink.specs.Uplink.{uplinkBytes, writingUplink}
 use Rattle.gdl90.proofs.Answering.{told}
 use borrow.Author.Needs.{needs}
 use Rattle.gdl90.proofs.gdl90_write_uplink.Statement.{statement}

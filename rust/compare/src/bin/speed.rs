@@ -13,6 +13,7 @@ use compare::clock;
 use gdl90::{raw, Message, Text};
 use reference::collecting::Answer;
 use reference::framing::{Framed, MESSAGE_MAX};
+use reference::information_frames::Frame;
 use reference::messages::{
     self, put, Heartbeat, Report, HEARTBEAT_ID, LENGTHS, NOT_LISTED, PAYLOAD_LENGTH, TRAFFIC_ID,
     UPLINK_ID, WRONG_LENGTH,
@@ -22,7 +23,6 @@ use reference::recording::{speed_recording, SHAPES};
 use reference::samples::whole;
 use reference::text;
 use reference::texts::{any_codes, forecast, packed, CODES_MAX};
-use reference::uplink::Frame;
 use reference::xorshift::Xorshift;
 
 const MESSAGES: usize = 64;
@@ -154,17 +154,17 @@ fn reference_write(message: &messages::Message, out: &mut [u8]) -> Result<usize,
 
 #[inline(never)]
 fn reference_list(payload: &[u8]) -> Result<(usize, usize), u8> {
-    reference::uplink::count(payload)
+    reference::information_frames::count(payload)
 }
 
 #[inline(never)]
 fn reference_nth(payload: &[u8], n: usize) -> Result<Frame, u8> {
-    reference::uplink::nth(payload, n)
+    reference::information_frames::nth(payload, n)
 }
 
 #[inline(never)]
 fn reference_add(payload: &mut [u8], frame_type: u8, data: &[u8]) -> Result<(), u8> {
-    reference::uplink::add(payload, frame_type, data)
+    reference::information_frames::add(payload, frame_type, data)
 }
 
 #[inline(never)]

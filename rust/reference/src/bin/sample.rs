@@ -225,8 +225,8 @@ fn borders() -> Vec<u8> {
 mod tests {
     use super::*;
     use reference::collecting::answers;
+    use reference::information_frames::list;
     use reference::messages::{LENGTHS, UPLINK_ID};
-    use reference::uplink::list;
 
     const README: &str = include_str!("../../../../samples/README.md");
 

@@ -17,13 +17,13 @@ use std::io::{self, Write};
 use std::process::ExitCode;
 
 use reference::fcs::check_sequence;
+use reference::information_frames::{
+    add, end, list, nth, DATA_LENGTH, FRAME_DATA_MAX, FRAME_TYPE_MAX, VALID, VALID_AT,
+};
 use reference::messages::{read, write, Message, Uplink, NOT_LISTED, PAYLOAD_LENGTH, UPLINK_ID};
 use reference::payloads::{damaged, samples_of_001, valid, whole};
 use reference::samples;
 use reference::text::{self, Text};
-use reference::uplink::{
-    add, end, list, nth, DATA_LENGTH, FRAME_DATA_MAX, FRAME_TYPE_MAX, VALID, VALID_AT,
-};
 use reference::vectors::{run, write_hex, HEARTBEAT};
 use reference::xorshift::Xorshift;
 

@@ -1,7 +1,7 @@
 use super::*;
+use crate::information_frames::list;
 use crate::payloads::samples_of_001;
 use crate::texts::{any_text, code_of, packed, HEADER};
-use crate::uplink::list;
 use crate::xorshift::Xorshift;
 
 /// Stands in a room before it is lent.

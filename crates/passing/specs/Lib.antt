@@ -1,3 +1,0 @@
-pub mod Reception
-pub mod Uplink
-pub mod Claims
