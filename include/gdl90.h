@@ -9,8 +9,8 @@
      1  bad escape                  7  length                                   14  fewer bytes than a text's header
      2  escape before the flag      8  a field outside its range                15  not a text's header
      3  more than 438 bytes         9  output too short                         16  not a text's character
-     4  1 or 2 bytes               10  message not of 1 to 436 bytes
-     5  check sequence             11  a frame runs past the application data  17  a retired id
+     4  1 or 2 bytes               10  message not of 1 to 436 bytes            17  a retired id
+     5  check sequence             11  a frame runs past the application data
    12 is not used, and will not be. Of several that apply, the one named first beside a function is given.
    With 0 only the bytes written change. With any other number every other field of the answer is 0, and memory lent for output is
    as it was. The one exception is gdl90_feed, which goes on behind a refused frame: `control` and `taken` always hold the state and

@@ -31,23 +31,23 @@ Moves = (s : State) (b : ℕ) (bs : List ℕ) (room : ℕ) → s .lister .taken 
 abbrev pub BothEnds : Type 0
 BothEnds = (bs : List ℕ) → ending (reached start bs .lister) ≡ lastLine (unflagged bs) (trail bs)
 
--- whatever stood before it, the frame of a message of 1 to 436 bytes has one line: the next number, the offset of its first byte, what
--- reading the message answers, its id and its length
-abbrev pub FramesListed : Type 0
-FramesListed =
-    (before m : List ℕ) → 1 ≤ length m → length m ≤ 436
-    → texts start (before ++ frameOf m)
+-- the frame of m behind other bytes adds one line: the next number, the offset of its first byte, this answer, its id and its length
+abbrev pub AddsLine : List ℕ → List ℕ → ℕ → Type 0
+AddsLine before m answer =
+    texts start (before ++ frameOf m)
     ≡ texts start (before ++ (flag ∷ []))
-    ++ answerLine (reached start (before ++ (flag ∷ [])) .lister) (readingNumber (readMessage m)) (digits (getD m 0 0)) (digits (length m))
+    ++ answerLine (reached start (before ++ (flag ∷ [])) .lister) answer (digits (getD m 0 0)) (digits (length m))
+
+-- whatever stood before it, the frame of a message of 1 to 436 bytes is listed with what reading the message answers
+abbrev pub FramesListed : Type 0
+FramesListed = (before m : List ℕ) → 1 ≤ length m → length m ≤ 436 → AddsLine before m (readingNumber (readMessage m))
 
 -- old recordings hold retired messages (RULES 'Retired ids'). One of up to 436 bytes is framed and collected as any other message is,
--- and its line has the answer 17
+-- and listed with 17
 pub record FramedCollectedListed (before m : List ℕ) : Type 0 where
   pub framed : (room : ℕ) → framing m room ≡ cond (leb (length (frameOf m)) room) (Bytes (length (frameOf m))) (Refused 9)
   pub collected : Answered before (m ++ lowFirst (fcs m)) (message m)
-  pub listed : texts start (before ++ frameOf m)
-      ≡ texts start (before ++ (flag ∷ []))
-      ++ answerLine (reached start (before ++ (flag ∷ [])) .lister) 17 (digits (getD m 0 0)) (digits (length m))
+  pub listed : AddsLine before m 17
 
 abbrev pub RetiredFrames : Type 0
 RetiredFrames = (before m : List ℕ) → Retired m → length m ≤ 436 → FramedCollectedListed before m
