@@ -130,7 +130,7 @@ static uint8_t print_report(const char *word, struct gdl90_report_read read)
     return 0;
 }
 
-/* gdl90_kind says which function reads the message, or 6, or 17 for a message of a retired kind. */
+/* gdl90_kind says which function reads the message, or 6, or 17 for a retired id. */
 static uint8_t print_kind(const uint8_t *message, size_t length)
 {
     struct gdl90_kind_answer kind = gdl90_kind(message, length);

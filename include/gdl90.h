@@ -192,12 +192,12 @@ struct gdl90_kind_answer {
     uint8_t id;
 };
 
-/* Which of the functions below reads the message: 6 if it is empty or its first byte is no kind's id; 17, whatever its length, if its
-   first byte is 30 or 31, the ids of basic and long pass-through, which are retired; else 0 and the kind's id. */
+/* Which of the functions below reads the message: 0 and the kind's id; or 17, whatever its length, if its first byte is a retired id,
+   30 or 31, once those of basic and long pass-through; or 6 if it is empty or its first byte is any other. */
 struct gdl90_kind_answer gdl90_kind(const uint8_t *message, size_t message_len);
 
-/* A message of one kind: 6 if it is empty or its first byte is not the kind's id, also a retired one; 7 if its length is not the
-   kind's; 8 for a field outside its range; 0. The payload of an uplink is the 432 bytes from message + 4 on. */
+/* A message of one kind: 6 if it is empty or its first byte is not the kind's id (a retired id is no kind's); 7 if its length is not
+   the kind's; 8 for a field outside its range; 0. The payload of an uplink is the 432 bytes from message + 4 on. */
 struct gdl90_heartbeat_read gdl90_read_heartbeat(const uint8_t *message, size_t message_len);
 struct gdl90_initialization_read gdl90_read_initialization(const uint8_t *message, size_t message_len);
 struct gdl90_uplink_read gdl90_read_uplink(const uint8_t *message, size_t message_len);

@@ -1,7 +1,7 @@
 /* The kind of a message, and five kinds read and written (RULES 'Messages', 'Retired ids'; 001 §3). */
 #include "kinds.h"
 
-/* ---- kinds, 001 Table 2: the id alone decides, at every kind's length and beyond */
+/* ---- kinds, 001 Table 2: the id alone decides, at every kind's length, at the 22 and 38 that pass-through had, and beyond */
 
 static void kind_is(const uint8_t *message, size_t length, uint8_t number, uint8_t id)
 {

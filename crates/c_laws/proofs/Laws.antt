@@ -41,7 +41,7 @@ use Rattle.c_report.specs.declared.FlatReport.{FlatReport}
 use Rattle.c_report.specs.Flat.{trackNumber, flatReport, reportFrom}
 use Rattle.c_report.proofs.Laws.{report-there-and-back}
 use Rattle.messages.specs.Message.{kindOf, kindNumber}
-use Rattle.messages.proofs.Retired.{with-id, of-id}
+use Rattle.messages.proofs.Retired.{id-of-retired, kind-of-retired}
 use Rattle.gdl90.specs.Messages.{kindAnswer, uplinkAnswer, AnsweredWriting, goodFlatReport}
 use Rattle.c_laws.specs.Zeroed.{beside, zeroedUplink, zeroedHeight, zeroedGeometric, zeroedReport}
 use Rattle.c_laws.specs.Claims.{Any, RoundTrip, RoundTrips, RetiredKind, UnknownIn, position, altitude, track, speed, climb, UnknownMarks}
@@ -173,7 +173,7 @@ round-trips = record {
 }
 
 pub retired-kind : RetiredKind
-retired-kind m = (λ r. simp (of-id m r), with-id m)
+retired-kind m = (λ r. simp (kind-of-retired m r), id-of-retired m)
 
 report-unknown : (f : FlatReport) → UnknownIn f → goodFlatReport f ≡ false
 unfolding goodReport

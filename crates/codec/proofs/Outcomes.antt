@@ -122,11 +122,11 @@ module _ {X R : Type 0} (id size : ℕ) (value : List ℕ → X) (good : X → B
       cond (eqb (cond s 6 (cond t (cond u 0 7) 6)) 0) (cond v (taken (value m)) (left 8)) (left (cond s 6 (cond t (cond u 0 7) 6)))
 
   -- two answers to the same bytes: what holds of them for an accepted value, and for 6, 7 and 8, holds of them
-  pub alike : {S : Type 0} (taken : X → S) (left : ℕ → S) (Q : R → S → Type 0) → ((x : X) → Q (accepted x) (taken x))
+  pub both-answers : {S : Type 0} (taken : X → S) (left : ℕ → S) (Q : R → S → Type 0) → ((x : X) → Q (accepted x) (taken x))
       → Q (refusal 6) (left 6) → Q (refusal 7) (left 7) → Q (refusal 8) (left 8)
       → Q (reading id size value good accepted refusal m) (reading id size value good taken left m)
   unfolding reading misfit
-  alike taken left Q a no-kind no-length no-range =
+  both-answers taken left Q a no-kind no-length no-range =
       go (eqb (length m) 0) (eqb (getD m 0 0) id) (eqb (length m) size) (good (value m))
     where
       go : (s t u v : Bool) → Q (pick accepted refusal s t u v) (pick taken left s t u v)
@@ -140,4 +140,4 @@ module _ {X R : Type 0} (id size : ℕ) (value : List ℕ → X) (good : X → B
   pub made : {S : Type 0} (taken : X → S) (left : ℕ → S) {r : R} (h : R → S) → r ≡ reading id size value good accepted refusal m
       → ((x : X) → h (accepted x) ≡ taken x) → h (refusal 6) ≡ left 6 → h (refusal 7) ≡ left 7 → h (refusal 8) ≡ left 8
       → h r ≡ reading id size value good taken left m
-  made taken left h e a no-kind no-length no-range = ap h e ∙ alike taken left (λ x y. h x ≡ y) a no-kind no-length no-range
+  made taken left h e a no-kind no-length no-range = ap h e ∙ both-answers taken left (λ x y. h x ≡ y) a no-kind no-length no-range

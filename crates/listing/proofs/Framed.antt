@@ -1,6 +1,6 @@
--- The line of a frame, whatever stood before it; and of a retired message's.
+-- The line of a frame, whatever stood before it; and of the frame of a message with a retired id.
 -- Assumes nothing.
-use mathlib.Core.Path.{_≡_, refl, sym, ap, ap₂, _∙_}
+use mathlib.Core.Path.{_≡_, refl, sym, ap, ap₂, _∙_, subst}
 use mathlib.Core.List.{List, [], _∷_, _++_, append-assoc, append-nil}
 use Prim.Native.Nat.{ℕ, _+_, _≤_, _<_}
 use native.Mathlib.Omega.{arith}
@@ -21,10 +21,10 @@ use Rattle.collecting.proofs.Closing.{pieces}
 use Rattle.collecting.proofs.Filling.{unflagged-most}
 use Rattle.collecting.proofs.Found.{frames-read}
 use Rattle.messages.specs.Message.{readMessage, readingNumber}
-use Rattle.messages.proofs.Retired.{some, retired-is-17}
+use Rattle.messages.proofs.Retired.{has-byte, retired-is-17}
 use Rattle.listing.specs.Line.{Field, digits}
 use Rattle.listing.specs.Listing.{State, collector, opening, start, answerLine, replyLine, textOf, counted, passed, advanced, reached, texts}
-use Rattle.listing.specs.Claims.{FramesListed, RetiredFrames}
+use Rattle.listing.specs.Claims.{AddsLine, FramesListed, RetiredFrames}
 use Rattle.listing.proofs.Steps.{reached-append, texts-append, reached-taken}
 use Rattle.listing.proofs.Passing.{reached-flagless, texts-flagless}
 use Rattle.listing.proofs.Trailing.{inside-flag, lead-is}
@@ -86,9 +86,9 @@ frames-listed before m some most =
 
 pub retired-frames : RetiredFrames
 unfolding framing
-retired-frames before m r most =
-    record {
-      framed = λ room. simp (le-leb 1 (length m) (some r), le-leb (length m) 436 most);
-      collected = frames-read before m (some r) most;
-      listed = rw (ap readingNumber (retired-is-17 m .0 r)) at (frames-listed before m (some r) most);
-    }
+retired-frames before m room r most fits =
+    let some = has-byte r in (
+      simp (le-leb 1 (length m) some, le-leb (length m) 436 most, le-leb (length (frameOf m)) room fits),
+      frames-read before m some most,
+      subst (AddsLine before m) (ap readingNumber (retired-is-17 m .0 r)) (frames-listed before m some most),
+    )

@@ -1,13 +1,11 @@
 -- What is proved of the listing (RULES 'Listing'), over the definitions that the contracts cite.
 -- Assumes nothing.
 use mathlib.Core.Path.{_≡_}
-use mathlib.Core.Bool.{cond}
 use mathlib.Core.List.{List, [], _∷_, _++_}
 use Prim.Native.Nat.{ℕ, _≤_, _<_}
-use lib.Dec.{leb}
 use lib.ListN.{length, take, getD}
 use Rattle.fcs.specs.Fcs.{fcs}
-use Rattle.framing.specs.declared.Framed.the-variants.{Bytes, Refused}
+use Rattle.framing.specs.declared.Framed.the-variants.{Bytes}
 use Rattle.framing.specs.Stuffing.{flag}
 use Rattle.framing.specs.Frame.{lowFirst, frameOf}
 use Rattle.framing.specs.Framing.{framing}
@@ -42,12 +40,9 @@ AddsLine before m answer =
 abbrev pub FramesListed : Type 0
 FramesListed = (before m : List ℕ) → 1 ≤ length m → length m ≤ 436 → AddsLine before m (readingNumber (readMessage m))
 
--- old recordings hold retired messages (RULES 'Retired ids'). One of up to 436 bytes is framed and collected as any other message is,
--- and listed with 17
-pub record FramedCollectedListed (before m : List ℕ) : Type 0 where
-  pub framed : (room : ℕ) → framing m room ≡ cond (leb (length (frameOf m)) room) (Bytes (length (frameOf m))) (Refused 9)
-  pub collected : Answered before (m ++ lowFirst (fcs m)) (message m)
-  pub listed : AddsLine before m 17
-
+-- recordings hold messages with a retired id (RULES 'Retired ids'). One of up to 436 bytes is framed, where there is room, and collected
+-- as any message is, and listed with 17
 abbrev pub RetiredFrames : Type 0
-RetiredFrames = (before m : List ℕ) → Retired m → length m ≤ 436 → FramedCollectedListed before m
+RetiredFrames =
+    (before m : List ℕ) (room : ℕ) → Retired m → length m ≤ 436 → length (frameOf m) ≤ room
+    → (framing m room ≡ Bytes (length (frameOf m))) × Answered before (m ++ lowFirst (fcs m)) (message m) × AddsLine before m 17

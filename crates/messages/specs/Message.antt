@@ -64,7 +64,7 @@ readAs kind.Traffic m = readTraffic m
 readAs kind.Retired m = Refused 17
 readAs kind.Unknown m = Refused 6
 
--- 6 for an empty message or an id that is not in the list; then 17 for a retired id, of whatever length; else as of the kind
+-- 6 for an empty message or an id that is neither in the list nor retired; then 17 for a retired id, of whatever length; else as of the kind
 unfoldable pub readMessage : List ℕ → Reading
 readMessage m = readAs (kindIn m) m
 

@@ -15,7 +15,7 @@ use Rattle.information_frames.specs.declared.Found.the-variants as nth
 use Rattle.information_frames.specs.Walk.{Frames, listed, payloadFrames}
 use Rattle.information_frames.specs.Answers.{none, nthFrame, dataStart, foundFrame, dataIn}
 use Rattle.information_frames.specs.Contents.{Content, contentOf, framesIn, contents, newFrame, newContent}
-use Rattle.information_frames.proofs.Laws as uplink
+use Rattle.information_frames.proofs.Laws as frames
 use Rattle.uplink_frames.specs.Frames.{messageFrames}
 use Rattle.generic_text.specs.declared.TextReading.the-variants as read
 use Rattle.generic_text.specs.Product.{Decoded, decode}
@@ -46,7 +46,7 @@ held p q fs f c end end′ e g h =
 pub added-read : AddedRead
 unfolding contentOf
 added-read t out left p q n fs end w e a =
-    let l = uplink.added-listed p q 0 (take n left) fs end e a in
+    let l = frames.added-listed p q 0 (take n left) fs end e a in
     let f = newFrame end 0 (take n left) in
     let next = end + (length (take n left) + 2) in
     let there : nthFrame (payloadFrames q) (length fs) ≡ nth.Frame f = ap (λ (x : Frames). nthFrame x (length fs)) (l .0) ∙ last fs f next in

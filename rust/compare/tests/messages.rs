@@ -214,8 +214,8 @@ fn every_id_with_every_length_agrees() {
     }
 }
 
-/// 17 whatever stands behind the id, and from nothing else; a kind's own function
-/// answers 6 (RULES 'Retired ids').
+/// RULES 'Retired ids': 17 whatever stands behind the id; a kind's own function
+/// answers 6.
 #[test]
 fn retired_ids_are_retired_whatever_the_length() {
     let mut random = Xorshift::new(29);
@@ -223,8 +223,8 @@ fn retired_ids_are_retired_whatever_the_length() {
         for length in 1..=440 {
             let mut message = random.message(length);
             message[0] = id;
-            assert_eq!(gdl90::Message::read(&message), Err(Error::Retired));
-            assert_eq!(Error::Retired.number(), RETIRED);
+            let answer = gdl90::Message::read(&message).map_err(Error::number);
+            assert_eq!(answer, Err(RETIRED), "{message:02X?}");
             for (kind, _) in LENGTHS {
                 assert_eq!(read_as(kind, &message), Err(NOT_LISTED), "{message:02X?}");
             }

@@ -53,7 +53,7 @@ pub enum Error {
     /// A code that is no character of a text, a tab with no count behind it, as in
     /// data that were cut off, or a character to be written that has no code.
     NoCharacter = 16,
-    /// A message with id 30 or 31, basic and long pass-through, which are retired.
+    /// A message with a retired id: 30 or 31, once basic and long pass-through.
     Retired = 17,
 }
 
@@ -123,7 +123,7 @@ impl fmt::Display for Error {
             Self::NoCharacter => {
                 "a code is no character of a text, a tab has no count, or a character has no code"
             }
-            Self::Retired => "the message is of a retired kind",
+            Self::Retired => "the message has a retired id",
         })
     }
 }

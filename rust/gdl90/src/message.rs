@@ -63,14 +63,14 @@ impl<'a> Message<'a> {
     ///
     /// # Errors
     ///
-    /// [`Error::UnknownId`] for an empty message or an id of no kind, then
-    /// [`Error::Retired`] for id 30 or 31 with whatever behind it, then
-    /// [`Error::WrongLength`], then [`Error::OutOfRange`].
+    /// [`Error::UnknownId`] for an empty message or an id that is neither a kind's
+    /// nor retired, then [`Error::Retired`] for id 30 or 31 with whatever behind it,
+    /// then [`Error::WrongLength`], then [`Error::OutOfRange`].
     ///
     /// ```
     /// use gdl90::{Error, Message};
     ///
-    /// // Of a basic pass-through, the id alone.
+    /// // A basic pass-through's id, alone.
     /// assert_eq!(Message::read(&[30]), Err(Error::Retired));
     /// ```
     #[inline]

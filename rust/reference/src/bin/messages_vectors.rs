@@ -237,8 +237,8 @@ fn add_receptions(records: &mut Records, random: &mut Xorshift) {
 }
 
 /// The retired ids and those next to them: of few bytes, of as many as a message
-/// may have, and around 22 and 38, which pass-through had (001 §3.6). These two
-/// also with times of reception, good and not.
+/// may have, and around 22 and 38, which pass-through had (001 §3.6). Those of 22
+/// and 38 bytes also with times of reception, good and not.
 fn add_retired(records: &mut Records, random: &mut Xorshift) {
     for id in 29..=32 {
         for length in [2, 3, 4, 5, 21, 22, 23, 37, 38, 39, 435, 436, 437] {

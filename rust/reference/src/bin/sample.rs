@@ -151,7 +151,7 @@ fn uplink(n: usize) -> Vec<u8> {
     }))
 }
 
-/// Pass-through as old logs hold it (001 §3.6): received 0.4 s into a second.
+/// Pass-through as recordings hold it (001 §3.6): received 0.4 s into a second.
 fn basic() -> Vec<u8> {
     [&[30, 0x40, 0x4B, 0x4C], &HEARD[..18]].concat()
 }

@@ -1,11 +1,11 @@
 //! Payloads whose frames are to be listed, frames to be added, and the answers.
 //!
-//! `uplink_vectors input` writes binary records: a letter, a size (16 bits, high
+//! `information_frames_vectors input` writes binary records: a letter, a size (16 bits, high
 //! byte first), and that many bytes. P is a payload; M a message; A a type and
 //! data, added to the payload given last, also in a message; L, without bytes,
 //! is that payload as it is now. One that is not of 432 bytes is cut to them or
 //! filled with zeros before frames are added, and a refused message leaves zeros.
-//! `uplink_vectors output` writes one line for each record. For P, M and L: the
+//! `information_frames_vectors output` writes one line for each record. For P, M and L: the
 //! number and, if it is 0, count and end of the list, then type, reserved bits,
 //! length and the first two bytes in hex of each frame, then the answer to the
 //! number behind the last. For M also what reading the text of each frame answers,
@@ -45,7 +45,7 @@ enum Record {
 use Record::{Add, List, Payload};
 
 fn main() -> io::Result<ExitCode> {
-    run("uplink_vectors", write_input, write_output)
+    run("information_frames_vectors", write_input, write_output)
 }
 
 fn write_input(out: &mut dyn Write) -> io::Result<()> {

@@ -1,10 +1,10 @@
--- `uplink_vectors::answer_records` meets its contract: each turn takes a record.
+-- `information_frames_vectors::answer_records` meets its contract: each turn takes a record.
 -- Assumes nothing.
 use native.Mathlib.Omega.{arith}
 use Prim.Native.Nat.{_≤_, _-_}
 use lib.ListN.{length}
-use Rattle.uplink_vectors.proofs.answer_records.Statement.{statement}
-use Rattle.uplink_vectors.proofs.answer_records.Tie as tie
+use Rattle.information_frames_vectors.proofs.answer_records.Statement.{statement}
+use Rattle.information_frames_vectors.proofs.answer_records.Tie as tie
 
 abbrev Inv-loop : tie.InvT-loop
 Inv-loop input payload₀ at₀ payload at = at ≤ length input

@@ -1,10 +1,10 @@
--- `uplink_vectors::keep` meets its contract: each turn stores a byte.
+-- `information_frames_vectors::keep` meets its contract: each turn stores a byte.
 -- Assumes nothing.
 use native.Mathlib.Omega.{arith}
 use Prim.Native.Nat.{_≤_, _-_}
 use borrow.Author.Needs.{needs}
-use Rattle.uplink_vectors.proofs.keep.Statement.{statement}
-use Rattle.uplink_vectors.proofs.keep.Tie as tie
+use Rattle.information_frames_vectors.proofs.keep.Statement.{statement}
+use Rattle.information_frames_vectors.proofs.keep.Tie as tie
 
 abbrev Inv-loop : tie.InvT-loop
 Inv-loop bytes payload₀ i₀ payload i = i ≤ 432
