@@ -25,6 +25,7 @@ never id size value good wrap m =
     both-answers id size value good (λ x. Accepted (wrap x)) Refused m (λ x. Accepted (wrap x)) Refused (λ r s. readingNumber r ≡ 17 → ⊥)
     (λ x z. omega arith) (λ z. omega arith) (λ z. omega arith) (λ z. omega arith)
 
+-- so 17 is answered for the retired kind alone
 by-kind : (k : Kind) (m : List ℕ) → readingNumber (readAs k m) ≡ 17 → kindNumber k ≡ 17
 by-kind kind.Heartbeat m z = absurd (never _ _ _ _ _ m z)
 by-kind kind.Initialization m z = absurd (never _ _ _ _ _ m z)

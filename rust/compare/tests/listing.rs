@@ -88,9 +88,8 @@ fn messages(random: &mut Xorshift) -> Vec<u8> {
 /// Of any length.
 fn retired(random: &mut Xorshift) -> Vec<u8> {
     let length = 1 + random.below(MESSAGE_MAX);
-    let mut message = random.message(length);
-    message[0] = RETIRED_IDS[random.below(RETIRED_IDS.len())];
-    message
+    let id = RETIRED_IDS[random.below(RETIRED_IDS.len())];
+    random.message_with_id(id, length)
 }
 
 fn garbage(random: &mut Xorshift) -> Vec<u8> {
@@ -208,9 +207,7 @@ fn every_id_in_every_length() {
     let mut stream = Vec::new();
     for length in 1..=MESSAGE_MAX + 1 {
         for id in 0..=255 {
-            let mut message = random.message(length);
-            message[0] = id;
-            stream.extend(sent(&message));
+            stream.extend(sent(&random.message_with_id(id, length)));
         }
         for (id, _) in LENGTHS {
             let mut message = vec![0; length];

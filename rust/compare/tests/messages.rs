@@ -183,9 +183,7 @@ fn random_fields_agree() {
     let mut random = Xorshift::new(22);
     for (id, length) in LENGTHS {
         for _ in 0..ROUNDS {
-            let mut message = random.message(length);
-            message[0] = id;
-            assert_readings_agree(&message);
+            assert_readings_agree(&random.message_with_id(id, length));
         }
     }
 }
@@ -221,8 +219,7 @@ fn retired_ids_are_retired_whatever_the_length() {
     let mut random = Xorshift::new(29);
     for id in RETIRED_IDS {
         for length in 1..=440 {
-            let mut message = random.message(length);
-            message[0] = id;
+            let message = random.message_with_id(id, length);
             let answer = gdl90::Message::read(&message).map_err(Error::number);
             assert_eq!(answer, Err(RETIRED), "{message:02X?}");
             for (kind, _) in LENGTHS {

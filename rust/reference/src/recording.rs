@@ -82,9 +82,7 @@ pub fn tiny(random: &mut Xorshift) -> Vec<u8> {
 /// one frame in 40 damaged. Behind the id the messages are random bytes.
 pub fn speed_recording() -> Vec<u8> {
     traffic_of(SPEED_LENGTH, |random, id| {
-        let mut message = random.message(length_of(id));
-        message[0] = id;
-        message
+        random.message_with_id(id, length_of(id))
     })
 }
 

@@ -32,6 +32,13 @@ impl Xorshift {
         message
     }
 
+    /// Random bytes behind the id.
+    pub fn message_with_id(&mut self, id: u8, length: usize) -> Vec<u8> {
+        let mut message = self.message(length);
+        message[0] = id;
+        message
+    }
+
     /// A message in which about `eighths` of eight bytes need an escape.
     pub fn message_with_escapes(&mut self, length: usize, eighths: usize) -> Vec<u8> {
         let mut message = self.message(length);

@@ -242,11 +242,11 @@ fn add_receptions(records: &mut Records, random: &mut Xorshift) {
 fn add_retired(records: &mut Records, random: &mut Xorshift) {
     for id in 29..=32 {
         for length in [2, 3, 4, 5, 21, 22, 23, 37, 38, 39, 435, 436, 437] {
-            records.push(any_behind(random, id, length));
+            records.push(random.message_with_id(id, length));
         }
         for length in [22, 38] {
             for steps in RECEPTIONS {
-                records.push(received_at(steps, any_behind(random, id, length)));
+                records.push(received_at(steps, random.message_with_id(id, length)));
             }
         }
     }
@@ -254,13 +254,6 @@ fn add_retired(records: &mut Records, random: &mut Xorshift) {
 
 fn received_at(steps: u32, mut message: Vec<u8>) -> Vec<u8> {
     message[1..4].copy_from_slice(&steps.to_le_bytes()[..3]);
-    message
-}
-
-/// Random bytes behind the id.
-fn any_behind(random: &mut Xorshift, id: u8, length: usize) -> Vec<u8> {
-    let mut message = random.message(length);
-    message[0] = id;
     message
 }
 
@@ -356,6 +349,6 @@ fn add_made_up(records: &mut Records, random: &mut Xorshift) {
         let [wholes, damages, others] = counts;
         records.extend((0..wholes).map(|_| whole(random, id)));
         records.extend((0..damages).map(|_| damaged(random, id)));
-        records.extend((0..others).map(|_| any_behind(random, id, length)));
+        records.extend((0..others).map(|_| random.message_with_id(id, length)));
     }
 }
