@@ -21,7 +21,7 @@ static uint8_t print_heartbeat(const uint8_t *message, size_t length)
     struct gdl90_heartbeat_read read = gdl90_read_heartbeat(message, length);
     struct gdl90_heartbeat h = read.heartbeat;
 
-    if (read.number == 0)
+    if (read.number == GDL90_ACCEPTED)
         printf("heartbeat: second %lu of the day, status %02X %02X, uplinks %u, basic and long messages %u\n",
                (unsigned long)h.time, h.status1, h.status2, h.uplinks, h.basic_and_long);
     return read.number;
@@ -31,7 +31,7 @@ static uint8_t print_initialization(const uint8_t *message, size_t length)
 {
     struct gdl90_initialization_read read = gdl90_read_initialization(message, length);
 
-    if (read.number == 0)
+    if (read.number == GDL90_ACCEPTED)
         printf("initialization: configuration %02X %02X\n", read.initialization.first, read.initialization.second);
     return read.number;
 }
@@ -42,8 +42,8 @@ static void print_text(const uint8_t *data, size_t length)
     static uint8_t text[GDL90_LONGEST_TEXT];
     struct gdl90_text_answer read = gdl90_read_text(data, length, text, sizeof text);
 
-    if (read.number != 0) {
-        printf("    text refused with %u\n", read.number);
+    if (read.number != GDL90_ACCEPTED) {
+        printf("    text refused with %u: %s\n", read.number, gdl90_number_words(read.number));
         return;
     }
     printf("    text of %02u:%02u\n", read.hours, read.minutes);
@@ -60,19 +60,19 @@ static uint8_t print_uplink(const uint8_t *message, size_t length)
 {
     struct gdl90_uplink_read read = gdl90_read_uplink(message, length);
 
-    if (read.number != 0)
+    if (read.number != GDL90_ACCEPTED)
         return read.number;
     print_number("uplink: time of reception", read.uplink.reception_mark, read.uplink.reception * 80L, "ns");
 
     const uint8_t *payload = message + 4;
-    struct gdl90_list_answer list = gdl90_list(payload, GDL90_PAYLOAD);
+    struct gdl90_payload_list_answer list = gdl90_payload_list(payload, GDL90_PAYLOAD);
 
-    if (list.number != 0)
-        printf(", information frames refused with %u\n", list.number);
+    if (list.number != GDL90_ACCEPTED)
+        printf(", information frames refused with %u: %s\n", list.number, gdl90_number_words(list.number));
     else
         printf(", information frames %zu\n", list.count);
     for (size_t n = 0; n < list.count; n++) {
-        struct gdl90_nth_answer frame = gdl90_nth(payload, GDL90_PAYLOAD, n);
+        struct gdl90_payload_nth_answer frame = gdl90_payload_nth(payload, GDL90_PAYLOAD, n);
 
         printf("  type %u, %zu bytes, from %02X on\n", frame.kind, frame.length, payload[frame.start]);
         if (frame.kind == 0)
@@ -85,7 +85,7 @@ static uint8_t print_height(const uint8_t *message, size_t length)
 {
     struct gdl90_height_read read = gdl90_read_height(message, length);
 
-    if (read.number == 0) {
+    if (read.number == GDL90_ACCEPTED) {
         print_number("height above terrain:", read.height.height_mark, gdl90_terrain_feet(read.height.height), "ft");
         printf("\n");
     }
@@ -96,7 +96,7 @@ static uint8_t print_geometric(const uint8_t *message, size_t length)
 {
     struct gdl90_geometric_read read = gdl90_read_geometric(message, length);
 
-    if (read.number == 0) {
+    if (read.number == GDL90_ACCEPTED) {
         printf("geometric altitude: %ld ft", (long)gdl90_geometric_feet(read.geometric.altitude));
         print_number(", merit", read.geometric.merit_mark, read.geometric.merit, "m");
         printf("%s\n", read.geometric.warning ? ", vertical warning" : "");
@@ -110,7 +110,7 @@ static uint8_t print_report(const char *word, struct gdl90_report_read read)
     struct gdl90_report r = read.report;
     struct gdl90_degrees_answer at = gdl90_degrees(r.latitude, r.longitude);
 
-    if (read.number != 0)
+    if (read.number != GDL90_ACCEPTED)
         return read.number;
     printf("%s: %06lX ", word, (unsigned long)r.address);
     for (int i = 0; i < 8; i++) /* a call sign may hold any bytes, and no zero ends it */
@@ -135,7 +135,7 @@ static uint8_t print_kind(const uint8_t *message, size_t length)
 {
     struct gdl90_kind_answer kind = gdl90_kind(message, length);
 
-    if (kind.number != 0)
+    if (kind.number != GDL90_ACCEPTED)
         return kind.number;
     switch (kind.id) {
     case GDL90_HEARTBEAT: return print_heartbeat(message, length);
@@ -145,14 +145,14 @@ static uint8_t print_kind(const uint8_t *message, size_t length)
     case GDL90_OWNSHIP: return print_report("ownship", gdl90_read_ownship(message, length));
     case GDL90_GEOMETRIC: return print_geometric(message, length);
     case GDL90_TRAFFIC: return print_report("traffic", gdl90_read_traffic(message, length));
-    default: return 6; /* a kind that this program does not know */
+    default: return GDL90_UNKNOWN_ID; /* a kind that this program does not know */
     }
 }
 
 static void print_frames(FILE *recording)
 {
-    static uint8_t room[GDL90_ROOM], message[GDL90_LONGEST_MESSAGE], bytes[4096];
-    struct gdl90_feed_control control = {0, 0};
+    static uint8_t room[GDL90_ROOM] = GDL90_FRESH, message[GDL90_LONGEST_MESSAGE], bytes[4096];
+    struct gdl90_feed_control control = GDL90_FRESH;
     size_t got;
 
     while ((got = fread(bytes, 1, sizeof bytes, recording)) > 0) {
@@ -162,10 +162,10 @@ static void print_frames(FILE *recording)
 
             control = fed.control;
             at += fed.taken;
-            if (fed.answered && number == 0)
+            if (fed.answered && number == GDL90_ACCEPTED)
                 number = print_kind(message, fed.length);
-            if (number != 0)
-                printf("refused with %u\n", number);
+            if (number != GDL90_ACCEPTED)
+                printf("refused with %u: %s\n", number, gdl90_number_words(number));
         }
     }
 }

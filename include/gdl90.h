@@ -1,17 +1,12 @@
-/* GDL 90 bytes: frames, collecting, messages, uplink payloads, weather texts, units. Link with libgdl90.a (`rt staticlib gdl90`).
+/* GDL 90 bytes: frames, collecting, messages, uplink payloads, weather texts, units. Link with libgdl90.a (`rt staticlib gdl90`),
+   which is for x86-64 with the System V ABI, so for Linux: structs are handed over by value.
 
    Every function takes every input, ends, keeps nothing, and touches nothing but the memory it is given, so any thread may call it.
-   A pointer and a length stand for bytes; the pointer is never null, also where the length is 0, and memory to be written overlaps
-   no other argument. A bool holds 0 or 1.
+   A pointer and a length stand for bytes; where the length is 0 the pointer may be NULL. `room` and `message` of gdl90_feed are never
+   NULL. Memory to be written overlaps no other argument. A bool holds 0 or 1, as C stores it; of another byte, which only memcpy or
+   another language puts there, the lowest bit counts.
 
-   `number` in an answer is one of these (RULES 'Numbers', in docs/RULES.md):
-     0  done                        6  empty, or another id                     13  no frame with that number
-     1  bad escape                  7  length                                   14  fewer bytes than a text's header
-     2  escape before the flag      8  a field outside its range                15  not a text's header
-     3  more than 438 bytes         9  output too short                         16  not a text's character
-     4  1 or 2 bytes               10  message not of 1 to 436 bytes            17  a retired id
-     5  check sequence             11  a frame runs past the application data
-   12 is not used, and will not be. Of several that apply, the one named first beside a function is given.
+   `number` in an answer is one of enum gdl90_number. Of several that apply, the one named first beside a function is given.
    With 0 only the bytes written change. With any other number every other field of the answer is 0, and memory lent for output is
    as it was. The one exception is gdl90_feed, which goes on behind a refused frame: `control` and `taken` always hold the state and
    the bytes taken, `answered` is true with a refusal too, and the room is part of the state. */
@@ -25,6 +20,55 @@
 #ifdef __cplusplus
 extern "C" {
 #endif
+
+/* The version of this header, of the crate for Rust and of gdl90-list. */
+#define GDL90_VERSION "0.2.0"
+
+/* What functions answer (RULES 'Numbers', in docs/RULES.md). 12 is not used, and will not be; later versions may have more. */
+enum gdl90_number {
+    GDL90_ACCEPTED = 0,
+    GDL90_BAD_ESCAPE = 1,
+    GDL90_ESCAPE_BEFORE_FLAG = 2,
+    GDL90_FRAME_TOO_LONG = 3,
+    GDL90_FRAME_TOO_SHORT = 4,
+    GDL90_CHECK_SEQUENCE = 5,
+    GDL90_UNKNOWN_ID = 6, /* often a message of the maker's own, and no fault */
+    GDL90_WRONG_LENGTH = 7,
+    GDL90_OUT_OF_RANGE = 8,
+    GDL90_NO_ROOM = 9,
+    GDL90_UNFRAMABLE = 10,
+    GDL90_PAST_THE_DATA = 11,
+    GDL90_NO_SUCH_FRAME = 13,
+    GDL90_NO_TEXT_HEADER = 14,
+    GDL90_NOT_TEXT = 15,
+    GDL90_NO_CHARACTER = 16,
+    GDL90_RETIRED = 17
+};
+
+/* A number in words, for a person to read: those of the crate for Rust and of `gdl90-list --help`. Never NULL. */
+static inline const char *gdl90_number_words(uint8_t number)
+{
+    switch (number) {
+    case GDL90_ACCEPTED: return "accepted";
+    case GDL90_BAD_ESCAPE: return "an escape stands before a byte that is never escaped";
+    case GDL90_ESCAPE_BEFORE_FLAG: return "an escape stands directly before the closing flag";
+    case GDL90_FRAME_TOO_LONG: return "the frame has more than 438 bytes";
+    case GDL90_FRAME_TOO_SHORT: return "the frame has only one or two bytes";
+    case GDL90_CHECK_SEQUENCE: return "the check sequence differs";
+    case GDL90_UNKNOWN_ID: return "the message is empty, or of an unknown kind";
+    case GDL90_WRONG_LENGTH: return "the message or the payload has a wrong length";
+    case GDL90_OUT_OF_RANGE: return "a field is outside its range";
+    case GDL90_NO_ROOM: return "there is too little room";
+    case GDL90_UNFRAMABLE: return "a message to be framed has 1 to 436 bytes";
+    case GDL90_PAST_THE_DATA: return "an information frame runs past the application data";
+    case GDL90_NO_SUCH_FRAME: return "no information frame has that number";
+    case GDL90_NO_TEXT_HEADER: return "the data are shorter than a text's header";
+    case GDL90_NOT_TEXT: return "the data are not a weather text";
+    case GDL90_NO_CHARACTER: return "a code is no character of a text, a tab has no count, or a character has no code";
+    case GDL90_RETIRED: return "the message has a retired id";
+    default: return "a number that this version does not have";
+    }
+}
 
 /* Lengths in bytes. */
 enum gdl90_length {
@@ -49,15 +93,22 @@ struct gdl90_frame_answer {
    than this frame. */
 struct gdl90_frame_answer gdl90_frame(const uint8_t *message, size_t message_len, uint8_t *out, size_t out_len);
 
-/* ---- collecting frames from a stream. Control and room are the state: keep both, unchanged, from one call to the next. */
+/* ---- collecting frames from a stream. Control and room are the state: keep both, unchanged, from one call to the next, also where
+   the bytes come in datagrams. One state for each sender; where a sender is another one, or starts anew, start from the fresh state. */
 
-/* All zero: the fresh state; the room is then zero too. A control with another phase or count than those below is taken as the fresh
-   state. Fed no byte at all, one with a phase over 4 comes back with count 439 and phase 0, and any other with a count over 438 as it
-   came: both are taken as the fresh state again. */
+/* All zero: the fresh state, as GDL90_FRESH initialises it. A control with another phase or count than those below is taken as the
+   fresh state. Fed no byte at all, one with a phase over 4 comes back with count 439 and phase 0, and any other with a count over 438
+   as it came: both are taken as the fresh state again. */
 struct gdl90_feed_control {
     size_t count;  /* bytes in the room, 0 to 438 */
     uint8_t phase; /* 0 to 4 */
 };
+
+/* Of control and room, each in its own declaration:
+     struct gdl90_feed_control control = GDL90_FRESH;
+     uint8_t room[GDL90_ROOM] = GDL90_FRESH;
+   To start anew it is enough to set the control so: the first flag clears the room. */
+#define GDL90_FRESH {0, 0}
 
 struct gdl90_feed_answer {
     struct gdl90_feed_control control; /* to be given to the next call */
@@ -223,13 +274,13 @@ struct gdl90_write_answer gdl90_write_traffic(struct gdl90_report report, uint8_
 
 /* ---- the information frames of an uplink payload, 432 bytes */
 
-struct gdl90_list_answer {
+struct gdl90_payload_list_answer {
     uint8_t number; /* 7, 11, 0 */
     size_t count;   /* 0 to 141 */
     size_t end;     /* where the list ends, counted from payload + 8, the start of the 424 bytes of application data */
 };
 
-struct gdl90_nth_answer {
+struct gdl90_payload_nth_answer {
     uint8_t number;   /* 7, 11, 13, 0 */
     uint8_t kind;     /* the frame's type, 0 to 15 */
     uint8_t reserved; /* 0 to 7 */
@@ -238,16 +289,16 @@ struct gdl90_nth_answer {
 };
 
 /* How many frames there are; none where the payload's header says that its application data are not valid. */
-struct gdl90_list_answer gdl90_list(const uint8_t *payload, size_t payload_len);
+struct gdl90_payload_list_answer gdl90_payload_list(const uint8_t *payload, size_t payload_len);
 
 /* Frame n, numbered from 0. */
-struct gdl90_nth_answer gdl90_nth(const uint8_t *payload, size_t payload_len, size_t n);
+struct gdl90_payload_nth_answer gdl90_payload_nth(const uint8_t *payload, size_t payload_len, size_t n);
 
 /* One frame more at the list's end, of a type up to 15 and with 1 to 422 bytes of data; the application data are then valid, and
    zero behind it. Answers 7, 11, 8 for another type or length, 9 if there is no room for it, 0. */
-uint8_t gdl90_add(uint8_t *payload, size_t payload_len, uint8_t kind, const uint8_t *data, size_t data_len);
+uint8_t gdl90_payload_add(uint8_t *payload, size_t payload_len, uint8_t kind, const uint8_t *data, size_t data_len);
 
-/* ---- weather texts, which information frames of type 0 carry. The type is the caller's to look at, in the `kind` of gdl90_nth. */
+/* ---- weather texts, which information frames of type 0 carry. The type is the caller's to look at, in the `kind` of gdl90_payload_nth. */
 
 /* Hours, minutes and padding are the header's, as they stand there: no time of day is asked for. */
 struct gdl90_text_answer {
@@ -258,7 +309,7 @@ struct gdl90_text_answer {
     size_t length;   /* of the text: bytes written */
 };
 
-/* The text in a frame's data, payload + start of gdl90_nth, or in any other bytes. It has the letters A to Z, the characters of ASCII
+/* The text in a frame's data, payload + start of gdl90_payload_nth, or in any other bytes. It has the letters A to Z, the characters of ASCII
    from 32, the space, to 63, 0x0A for a new line, and 0x1E between records. A tab becomes its spaces, 0 to 63; no zero byte is put
    behind the text. GDL90_LONGEST_TEXT bytes are room for that of every frame. Answers 14 for fewer than 4 bytes of data; 15 for a
    header of another product than 413, with a flag, segmented, or with another time option than 0; 16 for a code that is no character,
@@ -266,7 +317,7 @@ struct gdl90_text_answer {
    what stands behind it is not looked at; else the data's last whole code does. */
 struct gdl90_text_answer gdl90_read_text(const uint8_t *data, size_t data_len, uint8_t *out, size_t out_len);
 
-/* The data of a text, for gdl90_add with type 0: a header of product 413, then the characters' codes, without tabs, a code 0, and
+/* The data of a text, for gdl90_payload_add with type 0: a header of product 413, then the characters' codes, without tabs, a code 0, and
    zero bits up to the byte's end. n characters take 4 + (n + 1) - (n + 1) / 4 bytes; 556 fill a frame. Answers 8 unless hours are 0
    to 31, minutes 0 to 63 and padding 0 to 15; 16 for a byte that is no character of a text; 9; 0. */
 struct gdl90_write_answer gdl90_write_text(uint8_t hours, uint8_t minutes, uint8_t padding, const uint8_t *text, size_t text_len,

@@ -127,17 +127,17 @@ static void print_answers(void)
 
 static void print_payloads(void)
 {
-    STRUCT(gdl90_list_answer);
-    FIELD(gdl90_list_answer, number);
-    FIELD(gdl90_list_answer, count);
-    FIELD(gdl90_list_answer, end);
+    STRUCT(gdl90_payload_list_answer);
+    FIELD(gdl90_payload_list_answer, number);
+    FIELD(gdl90_payload_list_answer, count);
+    FIELD(gdl90_payload_list_answer, end);
 
-    STRUCT(gdl90_nth_answer);
-    FIELD(gdl90_nth_answer, number);
-    FIELD(gdl90_nth_answer, kind);
-    FIELD(gdl90_nth_answer, reserved);
-    FIELD(gdl90_nth_answer, start);
-    FIELD(gdl90_nth_answer, length);
+    STRUCT(gdl90_payload_nth_answer);
+    FIELD(gdl90_payload_nth_answer, number);
+    FIELD(gdl90_payload_nth_answer, kind);
+    FIELD(gdl90_payload_nth_answer, reserved);
+    FIELD(gdl90_payload_nth_answer, start);
+    FIELD(gdl90_payload_nth_answer, length);
 }
 
 static void print_texts(void)

@@ -16,6 +16,7 @@ void check_messages(void);
 void check_reports(void);
 void check_information_frames(void);
 void check_texts(void);
+void check_arguments(void);
 
 /* A case handed to a function that several share: a failure names its line too. */
 #define CASE(call) (case_line = __LINE__, (call), case_line = 0)
@@ -45,7 +46,8 @@ void check_bytes(const char *file, int line, const char *what, const uint8_t *go
 #define CHECK_BYTES(got, want, length) check_bytes(__FILE__, __LINE__, #got, got, want, length)
 
 /* Memory to lend, on the heap, with guard bytes before it and `behind` of them behind it. With none behind it valgrind sees a byte
-   too far, read or written; with some the guards see one written, and where. It is never null, also where the length is 0. */
+   too far, read or written; with some the guards see one written, and where. It is never null, also where the length is 0: that
+   null may stand there is for arguments.c to show. */
 struct lent {
     uint8_t *bytes;
     size_t length;

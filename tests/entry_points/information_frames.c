@@ -47,7 +47,7 @@ static void make(uint8_t payload[433], uint8_t valid, const char *hex)
 static void list_is(const uint8_t *payload, size_t length, uint8_t number, size_t count, size_t end)
 {
     struct lent input = lend_copy(payload, length);
-    struct gdl90_list_answer list = gdl90_list(input.bytes, length);
+    struct gdl90_payload_list_answer list = gdl90_payload_list(input.bytes, length);
 
     CHECK_U8(list.number, number);
     CHECK_SIZE(list.count, count);
@@ -59,7 +59,7 @@ static void nth_is(const uint8_t *payload, size_t length, size_t n, uint8_t numb
                    size_t data_len)
 {
     struct lent input = lend_copy(payload, length);
-    struct gdl90_nth_answer frame = gdl90_nth(input.bytes, length, n);
+    struct gdl90_payload_nth_answer frame = gdl90_payload_nth(input.bytes, length, n);
 
     CHECK_U8(frame.number, number);
     CHECK_U8(frame.kind, type);
@@ -189,7 +189,7 @@ static void add(uint8_t *payload, size_t length, uint8_t type, const uint8_t *da
 {
     struct lent memory = lend_copy(payload, length), input = lend_copy(data, data_len);
 
-    CHECK(gdl90_add(memory.bytes, length, type, input.bytes, data_len), number);
+    CHECK(gdl90_payload_add(memory.bytes, length, type, input.bytes, data_len), number);
     memcpy(payload, memory.bytes, length);
     TAKE_BACK(memory, want, length);
     TAKE_BACK(input, data, data_len);

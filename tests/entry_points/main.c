@@ -32,9 +32,9 @@ struct gdl90_write_answer gdl90_write_height(struct gdl90_height, u8 *, size_t);
 struct gdl90_write_answer gdl90_write_ownship(struct gdl90_report, u8 *, size_t);
 struct gdl90_write_answer gdl90_write_geometric(struct gdl90_geometric, u8 *, size_t);
 struct gdl90_write_answer gdl90_write_traffic(struct gdl90_report, u8 *, size_t);
-struct gdl90_list_answer gdl90_list(const u8 *, size_t);
-struct gdl90_nth_answer gdl90_nth(const u8 *, size_t, size_t);
-u8 gdl90_add(u8 *, size_t, u8, const u8 *, size_t);
+struct gdl90_payload_list_answer gdl90_payload_list(const u8 *, size_t);
+struct gdl90_payload_nth_answer gdl90_payload_nth(const u8 *, size_t, size_t);
+u8 gdl90_payload_add(u8 *, size_t, u8, const u8 *, size_t);
 struct gdl90_text_answer gdl90_read_text(const u8 *, size_t, u8 *, size_t);
 struct gdl90_write_answer gdl90_write_text(u8, u8, u8, const u8 *, size_t, u8 *, size_t);
 int32_t gdl90_pressure_feet(struct gdl90_pressure_steps);
@@ -156,6 +156,23 @@ size_t from_hex(const char *hex, uint8_t *bytes)
 
 static void check_constants(void)
 {
+    CHECK(GDL90_ACCEPTED, 0);
+    CHECK(GDL90_BAD_ESCAPE, 1);
+    CHECK(GDL90_ESCAPE_BEFORE_FLAG, 2);
+    CHECK(GDL90_FRAME_TOO_LONG, 3);
+    CHECK(GDL90_FRAME_TOO_SHORT, 4);
+    CHECK(GDL90_CHECK_SEQUENCE, 5);
+    CHECK(GDL90_UNKNOWN_ID, 6);
+    CHECK(GDL90_WRONG_LENGTH, 7);
+    CHECK(GDL90_OUT_OF_RANGE, 8);
+    CHECK(GDL90_NO_ROOM, 9);
+    CHECK(GDL90_UNFRAMABLE, 10);
+    CHECK(GDL90_PAST_THE_DATA, 11);
+    CHECK(GDL90_NO_SUCH_FRAME, 13);
+    CHECK(GDL90_NO_TEXT_HEADER, 14);
+    CHECK(GDL90_NOT_TEXT, 15);
+    CHECK(GDL90_NO_CHARACTER, 16);
+    CHECK(GDL90_RETIRED, 17);
     CHECK(GDL90_LONGEST_MESSAGE, 436);
     CHECK(GDL90_LONGEST_FRAME, 878);
     CHECK(GDL90_ROOM, 438);
@@ -190,8 +207,8 @@ static void check_sizes(void)
         0, {0, 0, 0, 0, 0, 0, 0, {0}, 0, false, false, 0, 0, 0, 0, 0, 0, 0, 0, {0}, 0, 0}};
     const struct gdl90_geometric_read geometric = {0, {{0}, false, 0, 0}};
     const struct gdl90_write_answer write = {0, 0};
-    const struct gdl90_list_answer list = {0, 0, 0};
-    const struct gdl90_nth_answer nth = {0, 0, 0, 0, 0};
+    const struct gdl90_payload_list_answer list = {0, 0, 0};
+    const struct gdl90_payload_nth_answer nth = {0, 0, 0, 0, 0};
     const struct gdl90_text_answer text = {0, 0, 0, 0, 0};
     const struct gdl90_degrees_answer degrees = {0, 0, 0};
 
@@ -306,6 +323,7 @@ int main(void)
     check_reports();
     check_information_frames();
     check_texts();
+    check_arguments();
     if (checks_failed > 0) {
         printf("%lu checks failed, %lu passed\n", checks_failed, checks_passed);
         return 1;

@@ -356,7 +356,7 @@ static void check_full_frame(void)
     static const uint8_t empty[GDL90_PAYLOAD] = {0};
     uint8_t payload[GDL90_PAYLOAD] = {0}, text[557], data[423];
     struct gdl90_write_answer written;
-    struct gdl90_nth_answer frame;
+    struct gdl90_payload_nth_answer frame;
     size_t i;
 
     for (i = 0; i < sizeof text; i++)
@@ -364,14 +364,14 @@ static void check_full_frame(void)
     written = gdl90_write_text(16, 25, 0, text, 557, data, sizeof data);
     CHECK_U8(written.number, 0);
     CHECK_SIZE(written.length, 423);
-    CHECK(gdl90_add(payload, sizeof payload, 0, data, written.length), 8);
+    CHECK(gdl90_payload_add(payload, sizeof payload, 0, data, written.length), 8);
     CHECK_BYTES(payload, empty, sizeof payload);
 
     written = gdl90_write_text(16, 25, 0, text, 556, data, sizeof data);
     CHECK_U8(written.number, 0);
     CHECK_SIZE(written.length, 422);
-    CHECK(gdl90_add(payload, sizeof payload, 0, data, written.length), 0);
-    frame = gdl90_nth(payload, sizeof payload, 0);
+    CHECK(gdl90_payload_add(payload, sizeof payload, 0, data, written.length), 0);
+    frame = gdl90_payload_nth(payload, sizeof payload, 0);
     CHECK_U8(frame.number, 0);
     CHECK_U8(frame.kind, 0);
     CHECK_SIZE(frame.length, 422);

@@ -3,14 +3,14 @@
 use Rattle.information_frames.specs.declared.FrameList.{FrameList}
 use Rattle.information_frames.specs.declared.Found.{Found}
 use Rattle.information_frames.specs.Answers.{listNumber, listCount, listEnd, foundNumber, foundFrame, dataStart}
-use Rattle.gdl90.specs.declared.ListAnswer.{ListAnswer}
-use Rattle.gdl90.specs.declared.NthAnswer.{NthAnswer}
+use Rattle.gdl90.specs.declared.PayloadListAnswer.{PayloadListAnswer}
+use Rattle.gdl90.specs.declared.PayloadNthAnswer.{PayloadNthAnswer}
 
-abbrev pub listAnswer : FrameList → ListAnswer
-listAnswer l = record { number = listNumber l; count = listCount l; end = listEnd l }
+abbrev pub payloadListAnswer : FrameList → PayloadListAnswer
+payloadListAnswer l = record { number = listNumber l; count = listCount l; end = listEnd l }
 
-abbrev pub nthAnswer : Found → NthAnswer
-nthAnswer f = record {
+abbrev pub payloadNthAnswer : Found → PayloadNthAnswer
+payloadNthAnswer f = record {
   number = foundNumber f;
   kind = foundFrame f .kind;
   reserved = foundFrame f .reserved;

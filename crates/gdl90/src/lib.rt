@@ -18,7 +18,7 @@ ghost use Rattle.information_frames.specs.Adding.{adding, addedNumber, payloadA
 ghost use Rattle.gdl90.specs.Collecting.{frameAnswer, phaseNumber, phaseOf, controlOf, feedAnswer, ranAnswer};
 ghost use Rattle.units.specs.Degrees.{inDegrees};
 ghost use Rattle.units.specs.Feet.{pressureFeet, geometricFeet, terrainFeet};
-ghost use Rattle.gdl90.specs.Payload.{listAnswer, nthAnswer};
+ghost use Rattle.gdl90.specs.Payload.{payloadListAnswer, payloadNthAnswer};
 ghost use Rattle.information_frames.specs.declared.Found.the-variants.{Refused};
 ghost use Rattle.generic_text.specs.Product.{textWith};
 ghost use Rattle.gdl90.specs.Texts.{textAnswer, ReadsText, WritesText};
@@ -412,7 +412,7 @@ fn write_answer(written: Written) -> WriteAnswer
 
 // The number; how many information frames a payload has, and where their list ends, counted from the application data's start.
 #[repr(C)]
-pub struct ListAnswer {
+pub struct PayloadListAnswer {
     pub number: u8,
     pub count: usize,
     pub end: usize,
@@ -420,16 +420,16 @@ pub struct ListAnswer {
 
 // `information_frames::list`.
 #[no_mangle]
-pub extern "C" fn gdl90_list(payload: &[u8]) -> ListAnswer
-    ensures { λ r. ⌜ r ≡ listAnswer (frameList (payloadFrames (now (payload .entry)))) ⌝ }
+pub extern "C" fn gdl90_payload_list(payload: &[u8]) -> PayloadListAnswer
+    ensures { λ r. ⌜ r ≡ payloadListAnswer (frameList (payloadFrames (now (payload .entry)))) ⌝ }
 {
     match information_frames::list(payload) {
-        FrameList::Frames { count, end } => ListAnswer {
+        FrameList::Frames { count, end } => PayloadListAnswer {
             number: 0,
             count,
             end,
         },
-        FrameList::Refused(number) => ListAnswer {
+        FrameList::Refused(number) => PayloadListAnswer {
             number,
             count: 0,
             end: 0,
@@ -439,7 +439,7 @@ pub extern "C" fn gdl90_list(payload: &[u8]) -> ListAnswer
 
 // The number; a frame's type and reserved bits, where in the payload its data start, and how many bytes they are.
 #[repr(C)]
-pub struct NthAnswer {
+pub struct PayloadNthAnswer {
     pub number: u8,
     pub kind: u8,
     pub reserved: u8,
@@ -449,11 +449,11 @@ pub struct NthAnswer {
 
 // `information_frames::nth`.
 #[no_mangle]
-pub extern "C" fn gdl90_nth(payload: &[u8], n: usize) -> NthAnswer
-    ensures { λ r. ⌜ r ≡ nthAnswer (nthFrame (payloadFrames (now (payload .entry))) n) ⌝ }
+pub extern "C" fn gdl90_payload_nth(payload: &[u8], n: usize) -> PayloadNthAnswer
+    ensures { λ r. ⌜ r ≡ payloadNthAnswer (nthFrame (payloadFrames (now (payload .entry))) n) ⌝ }
 {
     match information_frames::nth(payload, n) {
-        Found::Frame(f) => NthAnswer {
+        Found::Frame(f) => PayloadNthAnswer {
             number: 0,
             kind: f.kind,
             reserved: f.reserved,
@@ -464,10 +464,10 @@ pub extern "C" fn gdl90_nth(payload: &[u8], n: usize) -> NthAnswer
     }
 }
 
-fn no_frame(number: u8) -> NthAnswer
-    ensures { λ r. ⌜ r ≡ nthAnswer (Refused number) ⌝ }
+fn no_frame(number: u8) -> PayloadNthAnswer
+    ensures { λ r. ⌜ r ≡ payloadNthAnswer (Refused number) ⌝ }
 {
-    NthAnswer {
+    PayloadNthAnswer {
         number,
         kind: 0,
         reserved: 0,
@@ -478,7 +478,7 @@ fn no_frame(number: u8) -> NthAnswer
 
 // `information_frames::add`: the number, 0 where the frame was added.
 #[no_mangle]
-pub extern "C" fn gdl90_add(payload: &mut [u8], kind: u8, bytes: &[u8]) -> u8
+pub extern "C" fn gdl90_payload_add(payload: &mut [u8], kind: u8, bytes: &[u8]) -> u8
     ensures answer { λ r. ⌜ r ≡ addedNumber (adding (payloadFrames (now (payload .entry))) kind (length (now (bytes .entry)))) ⌝ }
     ensures payload { λ _. ⌜ now (payload .exit) ≡ payloadAfter (adding (payloadFrames (now (payload .entry))) kind (length (now (bytes .entry)))) (now (payload .entry)) kind (now (bytes .entry)) ⌝ }
 {

@@ -2,7 +2,7 @@
 
 use std::hint::black_box;
 
-use gdl90::raw::{add, list, nth, ListAnswer, NthAnswer};
+use gdl90::raw::{payload_add, payload_list, payload_nth, PayloadListAnswer, PayloadNthAnswer};
 use gdl90::{add_information_frame, information_frame, information_frames, Error};
 use reference::information_frames::{
     self as reference_frames, FRAME_DATA_MAX, NO_ROOM, PAST_THE_DATA, VALID, VALID_AT,
@@ -16,42 +16,42 @@ const ROUNDS: usize = 20_000;
 const GUARD: usize = 16;
 
 /// The reference's answer in the shape of the C function's.
-fn listed(payload: &[u8]) -> ListAnswer {
+fn listed(payload: &[u8]) -> PayloadListAnswer {
     match reference_frames::list(payload) {
-        Ok(frames) => ListAnswer {
+        Ok(frames) => PayloadListAnswer {
             number: 0,
             count: frames.len(),
             end: reference_frames::end(&frames),
         },
-        Err(number) => ListAnswer {
+        Err(number) => PayloadListAnswer {
             number,
-            ..ListAnswer::default()
+            ..PayloadListAnswer::default()
         },
     }
 }
 
-fn found(payload: &[u8], n: usize) -> NthAnswer {
+fn found(payload: &[u8], n: usize) -> PayloadNthAnswer {
     match reference_frames::nth(payload, n) {
-        Ok(frame) => NthAnswer {
+        Ok(frame) => PayloadNthAnswer {
             number: 0,
             kind: frame.frame_type,
             reserved: frame.reserved,
             start: frame.data.start,
             length: frame.data.len(),
         },
-        Err(number) => NthAnswer {
+        Err(number) => PayloadNthAnswer {
             number,
-            ..NthAnswer::default()
+            ..PayloadNthAnswer::default()
         },
     }
 }
 
 /// The list, and every frame: those that there are, and numbers behind them.
 fn assert_lists_agree(payload: &[u8]) {
-    let answer = list(payload);
+    let answer = payload_list(payload);
     assert_eq!(answer, listed(payload), "{payload:02X?}");
     for n in (0..answer.count + 3).chain([usize::MAX]) {
-        let frame = nth(payload, n);
+        let frame = payload_nth(payload, n);
         assert_eq!(frame, found(payload, n), "frame {n} of {payload:02X?}");
     }
     assert_safe_lists_agree(payload);
@@ -101,7 +101,7 @@ fn assert_adds_agree(payload: &mut Vec<u8>, frame_type: u8, data: &[u8]) -> u8 {
     let mut lent = [&[0xA5; GUARD][..], payload, &[0x5A; GUARD]].concat();
     let mut expected = lent.clone();
     let place = GUARD..GUARD + payload.len();
-    let number = add(&mut lent[place.clone()], frame_type, data);
+    let number = payload_add(&mut lent[place.clone()], frame_type, data);
     let mut safely = payload.clone();
     let added = add_information_frame(&mut safely, frame_type, data);
     assert_eq!(added.map_or_else(Error::number, |()| 0), number);
@@ -122,13 +122,15 @@ fn assert_adds_agree(payload: &mut Vec<u8>, frame_type: u8, data: &[u8]) -> u8 {
 #[test]
 fn samples_of_001_agree() {
     let samples = samples_of_001();
-    let counts = samples.each_ref().map(|payload| list(payload).count);
+    let counts = samples
+        .each_ref()
+        .map(|payload| payload_list(payload).count);
     assert_eq!(counts, [7, 12, 5]);
     for payload in samples {
         assert_lists_agree(&payload);
         let mut built = vec![0; PAYLOAD_LENGTH];
-        for n in 0..list(&payload).count {
-            let frame = nth(&payload, n);
+        for n in 0..payload_list(&payload).count {
+            let frame = payload_nth(&payload, n);
             let data = &payload[frame.start..][..frame.length];
             assert_eq!(assert_adds_agree(&mut built, frame.kind, data), 0);
         }
@@ -141,7 +143,7 @@ fn whole_payloads_agree() {
     let mut random = Xorshift::new(50);
     for _ in 0..ROUNDS {
         let payload = whole(&mut random);
-        assert_eq!(list(&payload).number, 0, "{payload:02X?}");
+        assert_eq!(payload_list(&payload).number, 0, "{payload:02X?}");
         assert_lists_agree(&payload);
     }
 }
@@ -169,7 +171,11 @@ fn every_length_agrees() {
     for length in 0..=2 * PAYLOAD_LENGTH {
         for mut payload in [vec![0; length], random.message(length)] {
             let wrong = length != PAYLOAD_LENGTH;
-            assert_eq!(list(&payload).number == WRONG_LENGTH, wrong, "{length}");
+            assert_eq!(
+                payload_list(&payload).number == WRONG_LENGTH,
+                wrong,
+                "{length}"
+            );
             assert_lists_agree(&payload);
             assert_adds_agree(&mut payload, 16, &[]);
         }
@@ -207,9 +213,9 @@ fn lengths_over_422_are_11_wherever_a_frame_starts() {
             let others = (at + length) as u16 % 128;
             data[at..at + 2].copy_from_slice(&(length as u16 * 128 + others).to_be_bytes());
             let mut payload = valid(&data);
-            assert_eq!(list(&payload).number, 11, "{length} at {at}");
+            assert_eq!(payload_list(&payload).number, 11, "{length} at {at}");
             for n in [0, 1, 2, usize::MAX] {
-                assert_eq!(nth(&payload, n).number, 11, "{length} at {at}");
+                assert_eq!(payload_nth(&payload, n).number, 11, "{length} at {at}");
                 assert_eq!(information_frame(&payload, n), Err(Error::PastTheData));
             }
             assert_lists_agree(&payload);
@@ -230,7 +236,11 @@ fn every_bit_of_the_header_agrees() {
             payload[..8].fill(ones);
             payload[bit / 8] ^= 1 << (bit % 8);
             let counted = payload[VALID_AT] & VALID != 0;
-            assert_eq!(list(&payload).count, usize::from(counted), "bit {bit}");
+            assert_eq!(
+                payload_list(&payload).count,
+                usize::from(counted),
+                "bit {bit}"
+            );
             assert_lists_agree(&payload);
             assert_adds_agree(&mut payload, 15, &[4, 5]);
         }
@@ -290,8 +300,8 @@ fn adding_until_full_agrees() {
                 break;
             }
             added += 1;
-            assert_eq!(list(&payload).count, added);
-            let last = nth(&payload, added - 1);
+            assert_eq!(payload_list(&payload).count, added);
+            let last = payload_nth(&payload, added - 1);
             assert_eq!(payload[last.start..][..last.length], data);
         }
         assert_lists_agree(&payload);

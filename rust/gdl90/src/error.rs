@@ -40,7 +40,7 @@ pub enum Error {
     /// The output is too short, or the payload has no room for another frame.
     NoRoom = 9,
     /// A message to be framed that is not of 1 to 436 bytes.
-    MessageLength = 10,
+    Unframable = 10,
     /// An information frame runs past the application data.
     PastTheData = 11,
     /// No information frame has that number.
@@ -70,7 +70,7 @@ impl Error {
             7 => Self::WrongLength,
             8 => Self::OutOfRange,
             9 => Self::NoRoom,
-            10 => Self::MessageLength,
+            10 => Self::Unframable,
             11 => Self::PastTheData,
             13 => Self::NoSuchFrame,
             14 => Self::NoTextHeader,
@@ -115,7 +115,7 @@ impl fmt::Display for Error {
             Self::WrongLength => "the message or the payload has a wrong length",
             Self::OutOfRange => "a field is outside its range",
             Self::NoRoom => "there is too little room",
-            Self::MessageLength => "a message to be framed has 1 to 436 bytes",
+            Self::Unframable => "a message to be framed has 1 to 436 bytes",
             Self::PastTheData => "an information frame runs past the application data",
             Self::NoSuchFrame => "no information frame has that number",
             Self::NoTextHeader => "the data are shorter than a text's header",

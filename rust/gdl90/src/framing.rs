@@ -15,7 +15,7 @@ pub const FRAME_MAX: usize = 2 * (MESSAGE_MAX + 2) + 2;
 ///
 /// # Errors
 ///
-/// [`Error::MessageLength`] unless the message has 1 to 436 bytes, then
+/// [`Error::Unframable`] unless the message has 1 to 436 bytes, then
 /// [`Error::NoRoom`] exactly if `out` is shorter than the frame.
 ///
 /// ```
@@ -33,7 +33,7 @@ pub fn frame(message: &[u8], out: &mut [u8]) -> Result<usize, Error> {
 ///
 /// # Errors
 ///
-/// [`Error::MessageLength`] unless the message has 1 to 436 bytes.
+/// [`Error::Unframable`] unless the message has 1 to 436 bytes.
 ///
 /// ```
 /// let heartbeat = [0x00, 0x81, 0x41, 0xDB, 0xD0, 0x08, 0x02];

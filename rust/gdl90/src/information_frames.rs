@@ -54,7 +54,7 @@ impl InformationFrame<'_> {
 /// # Ok::<(), gdl90::Error>(())
 /// ```
 pub fn information_frames(payload: &[u8]) -> Result<InformationFrames<'_>, Error> {
-    let count = raw::list(payload).result()?;
+    let count = raw::payload_list(payload).result()?;
     Ok(InformationFrames {
         payload,
         next: 0,
@@ -68,7 +68,7 @@ pub fn information_frames(payload: &[u8]) -> Result<InformationFrames<'_>, Error
 ///
 /// Those of [`information_frames`], then [`Error::NoSuchFrame`].
 pub fn information_frame(payload: &[u8], n: usize) -> Result<InformationFrame<'_>, Error> {
-    let found = raw::nth(payload, n);
+    let found = raw::payload_nth(payload, n);
     accepted(found.number, ())?;
     Ok(InformationFrame {
         kind: found.kind,
@@ -86,7 +86,7 @@ pub fn information_frame(payload: &[u8], n: usize) -> Result<InformationFrame<'_
 /// or data not of 1 to 422 bytes, then [`Error::NoRoom`]. The payload is then as
 /// it was.
 pub fn add_information_frame(payload: &mut [u8], kind: u8, data: &[u8]) -> Result<(), Error> {
-    accepted(raw::add(payload, kind, data), ())
+    accepted(raw::payload_add(payload, kind, data), ())
 }
 
 /// Iterator over information frames, made by [`information_frames`].

@@ -10,8 +10,8 @@ mod values;
 
 pub use values::{
     id, DegreesAnswer, FeedAnswer, FeedControl, FrameAnswer, Geometric, Heartbeat, Height,
-    Initialization, ListAnswer, NthAnswer, Read, Report, TextAnswer, Uplink, WriteAnswer, BELOW,
-    NONE, NUMBER, OVER,
+    Initialization, PayloadListAnswer, PayloadNthAnswer, Read, Report, TextAnswer, Uplink,
+    WriteAnswer, BELOW, NONE, NUMBER, OVER,
 };
 
 use crate::units::{GeometricSteps, PressureSteps, TerrainFeet};
@@ -43,9 +43,9 @@ extern "C" {
         out: *mut u8,
         out_len: usize,
     ) -> WriteAnswer;
-    fn gdl90_list(payload: *const u8, payload_len: usize) -> ListAnswer;
-    fn gdl90_nth(payload: *const u8, payload_len: usize, n: usize) -> NthAnswer;
-    fn gdl90_add(
+    fn gdl90_payload_list(payload: *const u8, payload_len: usize) -> PayloadListAnswer;
+    fn gdl90_payload_nth(payload: *const u8, payload_len: usize, n: usize) -> PayloadNthAnswer;
+    fn gdl90_payload_add(
         payload: *mut u8,
         payload_len: usize,
         kind: u8,
@@ -187,26 +187,26 @@ pub fn write_uplink(value: Uplink, payload: &[u8], out: &mut [u8]) -> WriteAnswe
 
 /// How many information frames a payload has: 7, 11.
 #[inline]
-pub fn list(payload: &[u8]) -> ListAnswer {
+pub fn payload_list(payload: &[u8]) -> PayloadListAnswer {
     // SAFETY: pointer and length are those of one live slice, which is only read
     // and not kept.
-    unsafe { gdl90_list(payload.as_ptr(), payload.len()) }
+    unsafe { gdl90_payload_list(payload.as_ptr(), payload.len()) }
 }
 
 /// Information frame n, numbered from 0: 7, 11, 13.
 #[inline]
-pub fn nth(payload: &[u8], n: usize) -> NthAnswer {
-    // SAFETY: as in `list`.
-    unsafe { gdl90_nth(payload.as_ptr(), payload.len(), n) }
+pub fn payload_nth(payload: &[u8], n: usize) -> PayloadNthAnswer {
+    // SAFETY: as in `payload_list`.
+    unsafe { gdl90_payload_nth(payload.as_ptr(), payload.len(), n) }
 }
 
 /// Adds an information frame behind the others; answers the number: 7, 11, 8, 9.
 #[inline]
-pub fn add(payload: &mut [u8], kind: u8, data: &[u8]) -> u8 {
+pub fn payload_add(payload: &mut [u8], kind: u8, data: &[u8]) -> u8 {
     let (to, from) = (payload.as_mut_ptr(), data.as_ptr());
     // SAFETY: each pointer and length are those of one live slice. `payload` is
     // borrowed mutably, so it does not overlap `data`; neither is kept.
-    unsafe { gdl90_add(to, payload.len(), kind, from, data.len()) }
+    unsafe { gdl90_payload_add(to, payload.len(), kind, from, data.len()) }
 }
 
 /// The weather text in an information frame's data: 14, 15, 16, 9.

@@ -269,15 +269,15 @@ fn measure_payloads(payloads: &[Vec<u8>]) {
     measure(
         "list",
         payloads,
-        |payload| raw::list(payload),
+        |payload| raw::payload_list(payload),
         |payload| reference_list(payload),
     );
-    let last = |payload: &[u8]| raw::list(payload).count - 1;
+    let last = |payload: &[u8]| raw::payload_list(payload).count - 1;
     let asked: Vec<(&[u8], usize)> = payloads.iter().map(|p| (&p[..], last(p))).collect();
     measure(
         "nth_last",
         &asked,
-        |(payload, n)| raw::nth(payload, *n),
+        |(payload, n)| raw::payload_nth(payload, *n),
         |(payload, n)| reference_nth(payload, *n),
     );
     let (mut proved, mut expected) = ([0; PAYLOAD_LENGTH], [0; PAYLOAD_LENGTH]);
@@ -286,7 +286,7 @@ fn measure_payloads(payloads: &[Vec<u8>]) {
         payloads,
         |payload| {
             proved.copy_from_slice(payload);
-            raw::add(black_box(&mut proved), 0, &ADDED)
+            raw::payload_add(black_box(&mut proved), 0, &ADDED)
         },
         |payload| {
             expected.copy_from_slice(payload);

@@ -157,7 +157,7 @@ pub struct WriteAnswer {
 /// the application data their list ends, 0 and 0 with a refusal.
 #[repr(C)]
 #[derive(Clone, Copy, Debug, PartialEq, Eq, Default)]
-pub struct ListAnswer {
+pub struct PayloadListAnswer {
     pub number: u8,
     pub count: usize,
     pub end: usize,
@@ -168,7 +168,7 @@ pub struct ListAnswer {
 /// are; all 0 with a refusal.
 #[repr(C)]
 #[derive(Clone, Copy, Debug, PartialEq, Eq, Default)]
-pub struct NthAnswer {
+pub struct PayloadNthAnswer {
     pub number: u8,
     pub kind: u8,
     pub reserved: u8,
@@ -222,7 +222,7 @@ impl WriteAnswer {
     }
 }
 
-impl ListAnswer {
+impl PayloadListAnswer {
     /// How many information frames.
     #[inline]
     pub fn result(self) -> Result<usize, Error> {

@@ -1,10 +1,10 @@
--- `gdl90::gdl90_add` meets its contract: what `information_frames::add` answers and leaves.
+-- `gdl90::gdl90_payload_add` meets its contract: what `information_frames::add` answers and leaves.
 -- Assumes nothing.
 use mathlib.Core.Path.{sym, ap, _∙_}
 use Rattle.information_frames.specs.Adding.{addedNumber}
 use borrow.Author.Needs.{needs}
-use Rattle.gdl90.proofs.gdl90_add.Statement.{statement}
-use Rattle.gdl90.proofs.gdl90_add.Tie as tie
+use Rattle.gdl90.proofs.gdl90_payload_add.Statement.{statement}
+use Rattle.gdl90.proofs.gdl90_payload_add.Tie as tie
 
 add-requires : tie.Need-add-requires
 add-requires c κs = search needs
@@ -31,7 +31,7 @@ returns-2 c =
     let e = c .before .before .before .before .before .add .ensures in
     (ap addedNumber (sym (c .before .k .given .1) ∙ e .answers), rw (e .answers) at (e .leaves))
 
-pub gdl90-add-spec : {M : Type 1} → statement M
-gdl90-add-spec =
+pub gdl90-payload-add-spec : {M : Type 1} → statement M
+gdl90-payload-add-spec =
     tie.close
     (tie.spec add-requires enum-told enum-known-k same-length returns same-length-2 returns-2)
