@@ -1,4 +1,4 @@
-// Lists the frames of standard input on standard output (RULES 'Listing').
+// Lists the frames of standard input on standard output (RULES 'Listing', 'Notes').
 use libc::STDERR_FILENO;
 use libc::STDIN_FILENO;
 use libc::STDOUT_FILENO;
@@ -15,6 +15,8 @@ enum Outcome {
 
 struct Turn {
     lister: Lister,
+    // how the input begins (`captures::begun`)
+    first: u64,
     outcome: Outcome,
 }
 
@@ -25,28 +27,35 @@ fn main() {
         return;
     }
     let mut room = [0u8; 438];
-    let first = listing::start(&mut room);
-    let last = list_all(first, &mut room);
+    let lister = listing::start(&mut room);
+    let last = list_all(lister, &mut room);
     let outcome = last.outcome;
     let lister = last.lister;
-    finish(lister, outcome);
+    finish(lister, last.first, outcome);
 }
 
 // Reads until the input ends or the limit is reached: each turn but the last takes a byte or more.
-fn list_all(first: Lister, room: &mut [u8; 438]) -> Turn {
-    let mut lister = first;
+fn list_all(start: Lister, room: &mut [u8; 438]) -> Turn {
+    let mut lister = start;
+    let mut first = captures::START;
     let mut turns = listing::LIMIT;
     while turns > 0 {
-        let turn = list_some(lister, room);
+        let turn = list_some(lister, first, room);
         lister = turn.lister;
+        first = turn.first;
         let outcome = turn.outcome;
         if !goes_on(outcome) {
-            return Turn { lister, outcome };
+            return Turn {
+                lister,
+                first,
+                outcome,
+            };
         }
         turns -= 1;
     }
     Turn {
         lister,
+        first,
         outcome: Outcome::End,
     }
 }
@@ -61,30 +70,47 @@ fn goes_on(outcome: Outcome) -> bool {
 }
 
 // Reads once, and lists what came.
-fn list_some(lister: Lister, room: &mut [u8; 438]) -> Turn {
+fn list_some(lister: Lister, first: u64, room: &mut [u8; 438]) -> Turn {
     let mut input = io::large_buffer();
     let got = libc::read(STDIN_FILENO, &mut input);
     if got < 0 {
         return Turn {
             lister,
+            first,
             outcome: Outcome::ReadFailed,
         };
     }
     if got == 0 {
         return Turn {
             lister,
+            first,
             outcome: Outcome::End,
         };
     }
     let n = io::count(got, &input);
-    list_bytes(lister, room, &input[..n])
+    let begun = captures::begun(first, &input[..n]);
+    note_capture(first, begun);
+    list_bytes(lister, begun, room, &input[..n])
+}
+
+// Once, when the bytes that came make it a capture.
+fn note_capture(before: u64, now: u64) {
+    if captures::is_capture(now) & !captures::is_capture(before) {
+        note(
+            b"note: the input begins as a packet capture does (pcap, pcapng): its own headers are listed as faults\n",
+        );
+        note(b"note: this takes the receiver's bytes out of it:\n");
+        note(
+            b"note: tshark -r CAPTURE -Y 'udp.dstport == 4000' -T fields -e udp.payload | xxd -r -p > recording.gdl90\n",
+        );
+    }
 }
 
 // Lists a stretch of the input, and writes its text as often as the room for it is full.
-fn list_bytes(first: Lister, room: &mut [u8; 438], bytes: &[u8]) -> Turn {
+fn list_bytes(start: Lister, first: u64, room: &mut [u8; 438], bytes: &[u8]) -> Turn {
     let mut space = io::buffer();
     let out: &mut [u8] = &mut space;
-    let mut lister = first;
+    let mut lister = start;
     let mut i = 0;
     while i < bytes.len() {
         let processed = listing::process(lister, room, &bytes[i..], out);
@@ -94,12 +120,14 @@ fn list_bytes(first: Lister, room: &mut [u8; 438], bytes: &[u8]) -> Turn {
         if !io::write_all(STDOUT_FILENO, &out[..written]) {
             return Turn {
                 lister,
+                first,
                 outcome: Outcome::WriteFailed,
             };
         }
         if taken == 0 {
             return Turn {
                 lister,
+                first,
                 outcome: Outcome::End,
             };
         }
@@ -107,12 +135,14 @@ fn list_bytes(first: Lister, room: &mut [u8; 438], bytes: &[u8]) -> Turn {
     }
     Turn {
         lister,
+        first,
         outcome: Outcome::More,
     }
 }
 
-// The last line, unless the output is closed. After a read that failed it stands for what was read.
-fn finish(lister: Lister, outcome: Outcome) {
+// The last line, unless the output is closed, and a note where the whole input is no recording. After a read that failed
+// the line stands for what was read, and there is no note.
+fn finish(lister: Lister, first: u64, outcome: Outcome) {
     say(outcome);
     if let Outcome::WriteFailed = outcome {
         return;
@@ -121,7 +151,30 @@ fn finish(lister: Lister, outcome: Outcome) {
     let n = listing::finish(lister, &mut ending);
     if !io::write_all(STDOUT_FILENO, &ending[..n]) {
         say(Outcome::WriteFailed);
+        return;
     }
+    if let Outcome::End = outcome {
+        note_no_frame(lister, first);
+    }
+}
+
+// The first note that holds is enough: a capture has had its own.
+fn note_no_frame(lister: Lister, first: u64) {
+    if listing::has_flag(lister) | captures::is_capture(first) {
+        return;
+    }
+    if lister.taken == 0 {
+        note(b"note: the input is empty\n");
+        return;
+    }
+    note(
+        b"note: the input has no flag (0x7E), so no frame: is it what the receiver sends, byte by byte?\n",
+    );
+    note(b"note: text of hexadecimal digits becomes bytes by: xxd -r -p TEXT > recording.gdl90\n");
+}
+
+fn note(line: &[u8]) {
+    io::write_all(STDERR_FILENO, line);
 }
 
 // A word on standard error about what went wrong.

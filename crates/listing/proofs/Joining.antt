@@ -11,7 +11,7 @@ use lib.Seq.{sets-eq, take-append-seam, length-take-le, take-take, take-add, tak
 use borrow.Author.Tests.{ltb-true, lt-ltb, le-leb}
 use Rattle.numbers.specs.Lent.{Stored}
 use Rattle.listing.specs.declared.Processed.{Processed}
-use Rattle.listing.specs.Listing.{limit, longest, State, state, opening, start, counted, advanced, textOf, reached, texts, listing, Sane, takenOf, Processes}
+use Rattle.listing.specs.Listing.{limit, longest, State, state, opening, start, counted, advanced, textOf, reached, texts, listing, Sane, steady, takenOf, Processes}
 use Rattle.listing.specs.Stretches.{Calls, stop, full, call}
 use Rattle.listing.specs.Claims.{Joined, Moves}
 use Rattle.listing.proofs.Steps.{sane-opening, steady-sane, settled-sane, reached-append, texts-append, reached-taken, sane-reached}
@@ -96,12 +96,20 @@ ends (call {s} {s′} {bs} {out} {left} {room} {rest} {r} k p q) w =
     let f : Front s bs left room r = front-of s bs out left room r k (rw (settled-sane s w) at p) in
     ends-call s s′ bs left room rest r f (ends q (sane-front s bs left room r w f))
 
-pub joined : Joined
-unfolding Ends listing start opening
-joined bs text s q =
+-- the state that the calls lead to is that of the input, up to the limit
+pub last-state : (bs text : List ℕ) (s : State) → Calls start bs text s
+    → (text ≡ texts start (take limit bs)) × (steady (s .lister) ≡ reached start (take limit bs) .lister)
+unfolding Ends start opening
+last-state bs text s q =
     let e : Ends start bs text s = ends q sane-opening in
     let w : Sane (reached start (take limit bs) .lister) = sane-reached start (take limit bs) sane-opening (omega (arith, length-take limit bs)) in
-    rw (e .0, e .1, steady-sane (reached start (take limit bs) .lister) w)
+    (e .0, rw (e .1) (steady-sane (reached start (take limit bs) .lister) w))
+
+pub joined : Joined
+unfolding listing
+joined bs text s q =
+    let e = last-state bs text s q in
+    rw (e .0, e .1)
 
 pub moves : Moves
 unfolding takenOf

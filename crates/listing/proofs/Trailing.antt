@@ -1,18 +1,21 @@
--- The last line has the lead-in and the trail of the input.
+-- The last line has the lead-in and the trail of the input; and whether there was a flag.
 -- Assumes nothing.
 use mathlib.Core.Path.{_≡_, refl, _∙_}
 use mathlib.Core.Bool.{Bool, true, false}
 use mathlib.Core.List.{List, [], _∷_}
 use Prim.Native.Nat.{ℕ, suc, _+_, _-_, _≤_, _<_}
+use lib.ListN.{length, take}
 use native.Mathlib.Omega.{arith}
 use lib.Dec.{eqb}
 use borrow.Author.Tests.{eq-eqb, ne-eqb}
 use Rattle.framing.specs.Stuffing.{flag}
 use Rattle.listing.specs.declared.Lister.{Lister}
-use Rattle.listing.specs.Listing.{State, opening, start, counted, advanced, reached}
+use Rattle.listing.specs.Listing.{limit, State, opening, start, counted, advanced, reached}
 use Rattle.collecting.specs.Stream.{unflagged}
 use Rattle.listing.specs.Stretches.{trailBy, trail}
-use Rattle.listing.specs.Claims.{BothEnds}
+use Rattle.listing.specs.Claims.{BothEnds, FlagSeen}
+use Rattle.listing.proofs.Steps.{reached-taken}
+use Rattle.listing.proofs.Joining.{last-state}
 
 -- after a flag, with n bytes behind it
 pub record Inside (l : Lister) (n : ℕ) : Type 0 where
@@ -91,3 +94,10 @@ lead-is bs = omega (arith, whole bs .0)
 pub both-ends : BothEnds
 unfolding Whole
 both-ends bs = rw (lead-is bs, whole bs .1)
+
+taken-is : (bs : List ℕ) → reached start bs .lister .taken ≡ length bs
+unfolding start opening
+taken-is bs = omega (arith, reached-taken start bs)
+
+pub flag-seen : FlagSeen
+flag-seen bs text s q = rw (last-state bs text s q .1, lead-is (take limit bs), taken-is (take limit bs))

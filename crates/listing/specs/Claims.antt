@@ -3,6 +3,7 @@
 use mathlib.Core.Path.{_≡_}
 use mathlib.Core.List.{List, [], _∷_, _++_}
 use Prim.Native.Nat.{ℕ, _≤_, _<_}
+use lib.Dec.{ltb}
 use lib.ListN.{length, take, getD}
 use Rattle.fcs.specs.Fcs.{fcs}
 use Rattle.framing.specs.declared.Framed.the-variants.{Bytes}
@@ -14,7 +15,7 @@ use Rattle.collecting.specs.Claims.{Answered}
 use Rattle.messages.specs.Message.{readMessage, readingNumber}
 use Rattle.messages.specs.Claims.{Retired}
 use Rattle.listing.specs.Line.{digits}
-use Rattle.listing.specs.Listing.{limit, longest, State, start, answerLine, reached, texts, header, lastLine, ending, listing, steady, takenOf}
+use Rattle.listing.specs.Listing.{limit, longest, State, start, answerLine, reached, texts, header, lastLine, ending, hasFlag, listing, steady, takenOf}
 use Rattle.listing.specs.Stretches.{Calls, trail}
 
 -- whatever the stretches, the header, their texts joined and the last line are the listing of the whole input, up to the limit
@@ -28,6 +29,11 @@ Moves = (s : State) (b : ℕ) (bs : List ℕ) (room : ℕ) → s .lister .taken 
 -- the last line has the lead-in bytes and the bytes after the last flag
 abbrev pub BothEnds : Type 0
 BothEnds = (bs : List ℕ) → ending (reached start bs .lister) ≡ lastLine (unflagged bs) (trail bs)
+
+-- whatever the stretches, a flag has come exactly if not all bytes of the input, up to the limit, stand before the first
+abbrev pub FlagSeen : Type 0
+FlagSeen =
+    (bs text : List ℕ) (s : State) → Calls start bs text s → hasFlag (steady (s .lister)) ≡ ltb (unflagged (take limit bs)) (length (take limit bs))
 
 -- the frame of m behind other bytes adds one line: the next number, the offset of its first byte, this answer, its id and its length
 abbrev pub AddsLine : List ℕ → List ℕ → ℕ → Type 0

@@ -101,6 +101,10 @@ lastLine lead trail = 101 ∷ 110 ∷ 100 ∷ 32 ∷ line (digits lead ∷ digit
 abbrev pub ending : Lister → List ℕ
 ending l = lastLine (l .lead) (l .taken - l .after)
 
+-- a flag has come: till then all bytes stand before the first
+abbrev pub hasFlag : Lister → Bool
+hasFlag l = ltb (l .lead) (l .taken)
+
 -- the whole output for a whole input
 unfoldable pub listing : List ℕ → List ℕ
 listing bs = header ++ (texts start bs ++ ending (reached start bs .lister))

@@ -9,7 +9,7 @@ ghost use Rattle.collecting.specs.Stream.{reply, unflagged};
 ghost use Rattle.collecting.specs.Claims.{Ranged};
 ghost use Rattle.messages.specs.Message.{readMessage, readingNumber};
 ghost use Rattle.listing.specs.Line.{decimal, field, shownAs};
-ghost use Rattle.listing.specs.Listing.{limit, longest, state, answerLine, replyLine, textOf, advanced, reached, header, ending, Sane, Processes};
+ghost use Rattle.listing.specs.Listing.{limit, longest, state, answerLine, replyLine, textOf, advanced, reached, header, ending, hasFlag, Sane, Processes};
 ghost use Rattle.listing.specs.Listing.{opening as Listing·opening, start as Listing·start, steady as Listing·steady, counted as Listing·counted, passed as Listing·passed, holds as Listing·holds, settled as Listing·settled};
 use collecting::Answer;
 use collecting::Control;
@@ -157,6 +157,14 @@ pub fn finish(lister: Lister, out: &mut [u8; 26]) -> usize
     out[3] = b' ';
     let p = put_field(out, 4, true, lead, b' ');
     put_field(out, p, true, trail, b'\n')
+}
+
+// Whether a flag has come.
+pub fn has_flag(lister: Lister) -> bool
+    ensures { λ r. ⌜ r ≡ hasFlag (Listing·steady lister) ⌝ }
+{
+    let l = steady(lister);
+    l.lead < l.taken
 }
 
 // A lister that no bytes within the limit lead to is taken as that at the start.

@@ -1,4 +1,5 @@
-//! The lister's output (RULES 'Listing'): one line for each answer to a stream.
+//! The lister's output (RULES 'Listing'): one line for each answer to a stream, and
+//! a note where the stream is no recording.
 
 use std::io::{self, BufWriter, ErrorKind, Read, Write};
 
@@ -56,6 +57,56 @@ pub fn listing(stream: &[u8]) -> Vec<u8> {
     let mut out = Vec::new();
     list(stream, &mut out).expect("memory can be read and written");
     out
+}
+
+/// How packet captures begin: pcap with times in microseconds and in nanoseconds,
+/// each in both orders of bytes, and pcapng.
+pub const CAPTURES: [[u8; 4]; 5] = [
+    [0xA1, 0xB2, 0xC3, 0xD4],
+    [0xD4, 0xC3, 0xB2, 0xA1],
+    [0xA1, 0xB2, 0x3C, 0x4D],
+    [0x4D, 0x3C, 0xB2, 0xA1],
+    [0x0A, 0x0D, 0x0D, 0x0A],
+];
+
+/// Why a stream is no recording.
+#[derive(Clone, Copy, Debug, PartialEq, Eq)]
+pub enum Note {
+    /// It begins as a packet capture does.
+    Capture,
+    /// It has no byte.
+    Empty,
+    /// None of the bytes that are listed is a flag.
+    NoFlag,
+}
+
+impl Note {
+    /// How its first line begins; the words behind are not fixed.
+    pub fn beginning(self) -> &'static str {
+        match self {
+            Self::Capture => "note: the input begins as a packet capture",
+            Self::Empty => "note: the input is empty",
+            Self::NoFlag => "note: the input has no flag",
+        }
+    }
+}
+
+/// What is said of a whole stream on standard error: the first note that holds.
+pub fn note(stream: &[u8]) -> Option<Note> {
+    note_up_to(LIMIT, stream)
+}
+
+fn note_up_to(limit: u64, stream: &[u8]) -> Option<Note> {
+    let listed = &stream[..stream.len().min(limit as usize)];
+    if CAPTURES.iter().any(|capture| stream.starts_with(capture)) {
+        Some(Note::Capture)
+    } else if stream.is_empty() {
+        Some(Note::Empty)
+    } else if !listed.contains(&FLAG) {
+        Some(Note::NoFlag)
+    } else {
+        None
+    }
 }
 
 #[derive(Default)]

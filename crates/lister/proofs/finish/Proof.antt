@@ -33,8 +33,17 @@ say-requires-2 c κs = search needs
 returns-2 : tie.Need-returns-2
 returns-2 c = search needs
 
+enum-told-2 : tie.Need-enum-told-2
+enum-told-2 c = search needs
+
+note-no-frame-requires : tie.Need-note-no-frame-requires
+note-no-frame-requires c κs = search needs
+
 returns-3 : tie.Need-returns-3
 returns-3 c = search needs
+
+returns-4 : tie.Need-returns-4
+returns-4 c = search needs
 
 pub finish-spec : {M : Type 1} → statement M
 finish-spec =
@@ -49,4 +58,7 @@ finish-spec =
     write-all-requires
     say-requires-2
     returns-2
-    returns-3)
+    enum-told-2
+    note-no-frame-requires
+    returns-3
+    returns-4)

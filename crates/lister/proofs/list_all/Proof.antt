@@ -5,10 +5,10 @@ use Rattle.lister.proofs.list_all.Statement.{statement}
 use Rattle.lister.proofs.list_all.Tie as tie
 
 abbrev Inv-loop : tie.InvT-loop
-Inv-loop room₀ lister₀ turns₀ room lister turns = Unit {0}
+Inv-loop room₀ lister₀ first₀ turns₀ room lister first turns = Unit {0}
 
 abbrev μ-loop : tie.MeasureT-loop
-μ-loop room₀ lister₀ turns₀ room lister turns = turns
+μ-loop room₀ lister₀ first₀ turns₀ room lister first turns = turns
 
 loop-holds : tie.Need-loop-holds Inv-loop μ-loop
 loop-holds c = search needs

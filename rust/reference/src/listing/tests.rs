@@ -217,3 +217,103 @@ fn full_output_ends_the_listing() {
         assert!(input.len() + BLOCK >= frames.len(), "{room}");
     }
 }
+
+/// The five as numbers, which is how the formats define them.
+fn captures() -> [[u8; 4]; 5] {
+    let [microseconds, nanoseconds] = [0xA1B2_C3D4_u32, 0xA1B2_3C4D];
+    [
+        microseconds.to_be_bytes(),
+        microseconds.to_le_bytes(),
+        nanoseconds.to_be_bytes(),
+        nanoseconds.to_le_bytes(),
+        0x0A0D_0D0A_u32.to_be_bytes(),
+    ]
+}
+
+#[test]
+fn captures_are_noted() {
+    assert_eq!(CAPTURES, captures());
+    for capture in captures() {
+        assert_eq!(note(&capture), Some(Note::Capture));
+        for behind in [&[0x00; 20], &framed(&HEARTBEAT)[..], &[FLAG], &capture] {
+            let stream = [&capture, behind].concat();
+            assert_eq!(note(&stream), Some(Note::Capture), "{stream:02X?}");
+        }
+    }
+}
+
+/// No two of the five differ in a single byte.
+#[test]
+fn a_changed_byte_is_no_capture() {
+    for capture in captures() {
+        for at in 0..4 {
+            for byte in (0..=255).filter(|&byte| byte != capture[at]) {
+                let mut changed = capture;
+                changed[at] = byte;
+                let expected = (byte != FLAG).then_some(Note::NoFlag);
+                assert_eq!(note(&changed), expected, "{changed:02X?}");
+                assert_eq!(note(&[&changed[..], &[FLAG]].concat()), None);
+            }
+        }
+    }
+}
+
+#[test]
+fn a_part_of_a_beginning_is_no_capture() {
+    for capture in captures() {
+        for length in 1..4 {
+            let part = &capture[..length];
+            assert_eq!(note(part), Some(Note::NoFlag), "{part:02X?}");
+            assert_eq!(note(&[part, &[FLAG]].concat()), None, "{part:02X?}");
+        }
+    }
+}
+
+/// Only the first four bytes count.
+#[test]
+fn a_beginning_further_on_is_no_capture() {
+    for capture in captures() {
+        assert_eq!(note(&[&[0x00], &capture[..]].concat()), Some(Note::NoFlag));
+        let doubled = [&capture[..1], &capture].concat();
+        assert_eq!(note(&doubled), Some(Note::NoFlag));
+        assert_eq!(note(&[&[FLAG], &capture[..]].concat()), None);
+        assert_eq!(note(&[&framed(&HEARTBEAT)[..], &capture].concat()), None);
+    }
+}
+
+#[test]
+fn notes_of_no_byte_and_of_one() {
+    assert_eq!(note(&[]), Some(Note::Empty));
+    for byte in 0..=255 {
+        let expected = (byte != FLAG).then_some(Note::NoFlag);
+        assert_eq!(note(&[byte]), expected, "{byte:02X}");
+    }
+}
+
+#[test]
+fn one_flag_anywhere_is_enough() {
+    for at in 0..20 {
+        let mut stream = [ESCAPE; 20];
+        assert_eq!(note(&stream), Some(Note::NoFlag));
+        stream[at] = FLAG;
+        assert_eq!(note(&stream), None, "{at}");
+    }
+}
+
+#[test]
+fn flags_over_the_limit_do_not_count() {
+    let stream = [0x55, 0x55, 0x55, FLAG, FLAG];
+    assert_eq!(note_up_to(3, &stream), Some(Note::NoFlag));
+    assert_eq!(note_up_to(4, &stream), None);
+}
+
+#[test]
+fn notes_begin_as_in_the_rule() {
+    let beginnings = [Note::Capture, Note::Empty, Note::NoFlag].map(Note::beginning);
+    let expected = [
+        "note: the input begins as a packet capture",
+        "note: the input is empty",
+        "note: the input has no flag",
+    ];
+    assert_eq!(beginnings, expected);
+}

@@ -1,0 +1,31 @@
+// Packet captures, told from recordings by how their files begin (RULES 'Notes').
+ghost use mathlib.Core.Path.{_≡_};
+ghost use Rattle.captures.specs.Captures.{isCapture};
+ghost use Rattle.captures.specs.Captures.{begun as Captures·begun};
+
+// Before the first byte.
+pub const START: u64 = 1;
+
+// A 1 and the first four bytes, high first, as one number: from that of the bytes so far, with these behind them.
+pub fn begun(first: u64, bytes: &[u8]) -> u64
+    ensures { λ r. ⌜ r ≡ Captures·begun first (now (bytes .entry)) ⌝ }
+{
+    let mut n = first;
+    let mut i = 0;
+    while i < bytes.len() {
+        if 0x100000000 <= n {
+            return n;
+        }
+        n = n * 256 + bytes[i] as u64;
+        i += 1;
+    }
+    n
+}
+
+// Whether a packet capture begins so: pcap, in either order of bytes, with times in microseconds or in nanoseconds; pcapng.
+pub fn is_capture(first: u64) -> bool
+    ensures { λ r. ⌜ r ≡ isCapture first ⌝ }
+{
+    ((first == 0x1A1B2C3D4) | (first == 0x1D4C3B2A1))
+        | (((first == 0x1A1B23C4D) | (first == 0x14D3CB2A1)) | (first == 0x10A0D0D0A))
+}
