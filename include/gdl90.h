@@ -93,8 +93,8 @@ struct gdl90_frame_answer {
    than this frame. */
 struct gdl90_frame_answer gdl90_frame(const uint8_t *message, size_t message_len, uint8_t *out, size_t out_len);
 
-/* ---- collecting frames from a stream. Control and room are the state: keep both, unchanged, from one call to the next, also where
-   the bytes come in datagrams. One state for each sender; where a sender is another one, or starts anew, start from the fresh state. */
+/* ---- collecting frames from a stream. Control and room are the state: keep both, unchanged, from one call to the next, also from
+   one datagram to the next. Each sender has a state of its own; where one starts anew, set it to the fresh state. */
 
 /* All zero: the fresh state, as GDL90_FRESH initialises it. A control with another phase or count than those below is taken as the
    fresh state. Fed no byte at all, one with a phase over 4 comes back with count 439 and phase 0, and any other with a count over 438
@@ -298,7 +298,7 @@ struct gdl90_payload_nth_answer gdl90_payload_nth(const uint8_t *payload, size_t
    zero behind it. Answers 7, 11, 8 for another type or length, 9 if there is no room for it, 0. */
 uint8_t gdl90_payload_add(uint8_t *payload, size_t payload_len, uint8_t kind, const uint8_t *data, size_t data_len);
 
-/* ---- weather texts, which information frames of type 0 carry. The type is the caller's to look at, in the `kind` of gdl90_payload_nth. */
+/* ---- weather texts, which information frames of type 0 carry. The type, `kind` of gdl90_payload_nth, is the caller's to look at. */
 
 /* Hours, minutes and padding are the header's, as they stand there: no time of day is asked for. */
 struct gdl90_text_answer {
@@ -309,17 +309,17 @@ struct gdl90_text_answer {
     size_t length;   /* of the text: bytes written */
 };
 
-/* The text in a frame's data, payload + start of gdl90_payload_nth, or in any other bytes. It has the letters A to Z, the characters of ASCII
-   from 32, the space, to 63, 0x0A for a new line, and 0x1E between records. A tab becomes its spaces, 0 to 63; no zero byte is put
-   behind the text. GDL90_LONGEST_TEXT bytes are room for that of every frame. Answers 14 for fewer than 4 bytes of data; 15 for a
-   header of another product than 413, with a flag, segmented, or with another time option than 0; 16 for a code that is no character,
-   27 or 31, and for a tab with no count behind it; 9 exactly when the output is shorter than the text; 0. A code 0 ends the text, and
-   what stands behind it is not looked at; else the data's last whole code does. */
+/* The text in a frame's data, payload + start of gdl90_payload_nth, or in any other bytes. It has the letters A to Z, the characters
+   of ASCII from 32, the space, to 63, 0x0A for a new line, and 0x1E between records. A tab becomes its spaces, 0 to 63; no zero byte
+   is put behind the text. GDL90_LONGEST_TEXT bytes are room for that of every frame. Answers 14 for fewer than 4 bytes of data; 15
+   for a header of another product than 413, with a flag, segmented, or with another time option than 0; 16 for a code that is no
+   character, 27 or 31, and for a tab with no count behind it; 9 exactly when the output is shorter than the text; 0. A code 0 ends
+   the text, and what stands behind it is not looked at; else the data's last whole code does. */
 struct gdl90_text_answer gdl90_read_text(const uint8_t *data, size_t data_len, uint8_t *out, size_t out_len);
 
-/* The data of a text, for gdl90_payload_add with type 0: a header of product 413, then the characters' codes, without tabs, a code 0, and
-   zero bits up to the byte's end. n characters take 4 + (n + 1) - (n + 1) / 4 bytes; 556 fill a frame. Answers 8 unless hours are 0
-   to 31, minutes 0 to 63 and padding 0 to 15; 16 for a byte that is no character of a text; 9; 0. */
+/* The data of a text, for gdl90_payload_add with type 0: a header of product 413, then the characters' codes, without tabs, a code 0,
+   and zero bits up to the byte's end. n characters take 4 + (n + 1) - (n + 1) / 4 bytes; 556 fill a frame. Answers 8 unless hours are
+   0 to 31, minutes 0 to 63 and padding 0 to 15; 16 for a byte that is no character of a text; 9; 0. */
 struct gdl90_write_answer gdl90_write_text(uint8_t hours, uint8_t minutes, uint8_t padding, const uint8_t *text, size_t text_len,
                                            uint8_t *out, size_t out_len);
 

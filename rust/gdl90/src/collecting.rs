@@ -14,7 +14,8 @@ use crate::Message;
 /// frame was refused ([`Error::BadEscape`] to [`Error::CheckSequence`]). A flag
 /// closes what came before it and opens the next frame. Bytes before the first
 /// flag are ignored, and nothing between two flags is no answer. A frame may
-/// start in one slice and end in a later one.
+/// start in one slice and end in a later one, so nothing is reset between the
+/// datagrams of a sender. Each sender has a collector of its own.
 ///
 /// ```
 /// use gdl90::Collector;
