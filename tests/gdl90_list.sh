@@ -273,7 +273,7 @@ END
 # built NAME STATUS OUTPUT WORD: as check, with a line of progress for each crate; what rt says stands in the log alone.
 built() {
     local line
-    for line in '1 of 2 crates proved, the last numbers' '2 of 2 crates proved, the last lister'; do
+    for line in '1 of 2 crates proved, last numbers' '2 of 2 crates proved, last lister'; do
         grep -qF -- "gdl90-list: building the lister: $line" "$err" || wrong "$1: no line '$line'"
     done
     ! grep -qv '^gdl90-list: ' "$err" || wrong "$1: another line"

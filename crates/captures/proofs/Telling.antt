@@ -1,31 +1,31 @@
 -- How a packet capture is told.
 -- Assumes nothing.
-use mathlib.Core.Path.{_≡_, refl, sym, ap, _∙_}
+use mathlib.Core.Path.{_≡_, refl, _∙_}
 use mathlib.Core.Bool.{Bool, true, false}
 use mathlib.Core.List.{List, [], _∷_, _++_}
 use Prim.Native.Nat.{ℕ, _+_, _*_, _≤_, _<_}
 use native.Mathlib.Omega.{arith}
 use native.Mathlib.Numerals.{add-one}
-use lib.Dec.{eqb, ltb}
-use borrow.Author.Tests.{ne-eqb, lt-ltb, le-ltb, ltb-true, ltb-false}
+use lib.Dec.{ltb}
+use borrow.Author.Tests.{lt-ltb, le-ltb, ltb-false}
 use lib.ListN.{length, drop, getD, drop-of-length-le}
 use lib.Seq.{drop-cons}
 use Rattle.numbers.specs.Bytes.{AreBytes}
-use Rattle.captures.specs.Captures.{start, begun, four, isCapture}
+use Rattle.captures.specs.Captures.{start, whole, begun, four}
 use Rattle.captures.specs.Claims.{Told}
 
 -- behind four bytes nothing counts
-pub full : (n : ℕ) (bs : List ℕ) → 0x100000000 ≤ n → begun n bs ≡ n
+pub full : (n : ℕ) (bs : List ℕ) → whole ≤ n → begun n bs ≡ n
 unfolding begun
 full n [] h = refl
-full n (b ∷ bs) h = rw (le-ltb n 0x100000000 h)
+full n (b ∷ bs) h = rw (le-ltb n whole h)
 
-one-more : (n b : ℕ) (bs : List ℕ) → n < 0x100000000 → begun n (b ∷ bs) ≡ begun (n * 256 + b) bs
+one-more : (n b : ℕ) (bs : List ℕ) → n < whole → begun n (b ∷ bs) ≡ begun (n * 256 + b) bs
 unfolding begun
-one-more n b bs h = rw (lt-ltb n 0x100000000 h)
+one-more n b bs h = rw (lt-ltb n whole h)
 
 -- from the bytes that are left
-pub next : (n : ℕ) (bs : List ℕ) (i : ℕ) → n < 0x100000000 → i < length bs → begun n (drop i bs) ≡ begun (n * 256 + getD bs i 0) (drop (i + 1) bs)
+pub next : (n : ℕ) (bs : List ℕ) (i : ℕ) → n < whole → i < length bs → begun n (drop i bs) ≡ begun (n * 256 + getD bs i 0) (drop (i + 1) bs)
 next n bs i few h = rw (add-one, drop-cons bs i 0) (one-more n _ _ few)
 
 pub none-left : (n : ℕ) (bs : List ℕ) (i : ℕ) → length bs ≤ i → begun n (drop i bs) ≡ n
@@ -33,7 +33,7 @@ unfolding begun
 none-left n bs i h = rw (drop-of-length-le bs h)
 
 pieces-by : (n x : ℕ) (xs ys : List ℕ) → begun (begun (n * 256 + x) xs) ys ≡ begun (n * 256 + x) (xs ++ ys)
-    → (t : Bool) → ltb n 0x100000000 ≡ t → begun (begun n (x ∷ xs)) ys ≡ begun n ((x ∷ xs) ++ ys)
+    → (t : Bool) → ltb n whole ≡ t → begun (begun n (x ∷ xs)) ys ≡ begun n ((x ∷ xs) ++ ys)
 unfolding begun
 pieces-by n x xs ys ih true e = rw e ih
 pieces-by n x xs ys ih false e = rw e (full n ys (ltb-false n _ e))
@@ -41,7 +41,7 @@ pieces-by n x xs ys ih false e = rw e (full n ys (ltb-false n _ e))
 pieces : (n : ℕ) (xs ys : List ℕ) → begun (begun n xs) ys ≡ begun n (xs ++ ys)
 unfolding begun
 pieces n [] ys = refl
-pieces n (x ∷ xs) ys = pieces-by n x xs ys (pieces (n * 256 + x) xs ys) (ltb n 0x100000000) refl
+pieces n (x ∷ xs) ys = pieces-by n x xs ys (pieces (n * 256 + x) xs ys) (ltb n whole) refl
 
 first : (a b c d : ℕ) (bs : List ℕ) → AreBytes (a ∷ b ∷ c ∷ d ∷ []) → begun start (a ∷ b ∷ c ∷ d ∷ bs) ≡ four a b c d
 unfolding AreBytes
@@ -57,26 +57,13 @@ apart : (a b c d e f g h : ℕ) → AreBytes (a ∷ b ∷ c ∷ d ∷ []) → Ar
 unfolding AreBytes
 apart a b c d e f g h u v p = (omega arith, omega arith, omega arith, omega arith)
 
--- numbers below that of any four bytes
-small : (n m : ℕ) → n < 0x100000000 → m ≡ n → isCapture m ≡ false
-small n m h e =
-    rw (
-      e,
-      ne-eqb n (four 0xA1 0xB2 0xC3 0xD4) (λ p. omega arith),
-      ne-eqb n (four 0xD4 0xC3 0xB2 0xA1) (λ p. omega arith),
-      ne-eqb n (four 0xA1 0xB2 0x3C 0x4D) (λ p. omega arith),
-      ne-eqb n (four 0x4D 0x3C 0xB2 0xA1) (λ p. omega arith),
-      ne-eqb n (four 0x0A 0x0D 0x0D 0x0A) (λ p. omega arith),
-    )
-
-fewer : (bs : List ℕ) → AreBytes bs → length bs < 4 → isCapture (begun start bs) ≡ false
+fewer : (bs : List ℕ) → AreBytes bs → length bs < 4 → begun start bs < whole
 unfolding AreBytes begun
-fewer [] u h = refl
-fewer (a ∷ []) u h = small (256 + a) (256 + a) (omega arith) refl
-fewer (a ∷ b ∷ []) u h = small ((256 + a) * 256 + b) (begun start (a ∷ b ∷ [])) (omega arith) (one-more (256 + a) b [] (omega arith))
+fewer [] u h = omega arith
+fewer (a ∷ []) u h = omega arith
+fewer (a ∷ b ∷ []) u h = omega (arith, one-more (256 + a) b [] (omega arith))
 fewer (a ∷ b ∷ c ∷ []) u h =
-    small (((256 + a) * 256 + b) * 256 + c) (begun start (a ∷ b ∷ c ∷ [])) (omega arith)
-    (one-more (256 + a) b (c ∷ []) (omega arith) ∙ one-more ((256 + a) * 256 + b) c [] (omega arith))
+    omega (arith, one-more (256 + a) b (c ∷ []) (omega arith), one-more ((256 + a) * 256 + b) c [] (omega arith))
 fewer (a ∷ b ∷ c ∷ d ∷ bs) u h = absurd (omega arith)
 
 pub told : Told

@@ -1,12 +1,11 @@
 -- What is proved of how a packet capture is told (RULES 'Notes').
 -- Assumes nothing.
 use mathlib.Core.Path.{_≡_}
-use mathlib.Core.Bool.{false}
 use mathlib.Core.List.{List, [], _∷_, _++_}
 use Prim.Native.Nat.{ℕ, _<_}
 use lib.ListN.{length}
 use Rattle.numbers.specs.Bytes.{AreBytes}
-use Rattle.captures.specs.Captures.{start, begun, four, isCapture}
+use Rattle.captures.specs.Captures.{start, whole, begun, four}
 
 pub record Told : Type 0 where
   -- in whatever pieces the bytes come
@@ -15,5 +14,5 @@ pub record Told : Type 0 where
   pub first : (a b c d : ℕ) (bs : List ℕ) → AreBytes (a ∷ b ∷ c ∷ d ∷ []) → begun start (a ∷ b ∷ c ∷ d ∷ bs) ≡ four a b c d
   -- which no other four have
   pub apart : (a b c d e f g h : ℕ) → AreBytes (a ∷ b ∷ c ∷ d ∷ []) → AreBytes (e ∷ f ∷ g ∷ h ∷ []) → four a b c d ≡ four e f g h → (a ≡ e) × (b ≡ f) × (c ≡ g) × (d ≡ h)
-  -- and fewer are no capture
-  pub fewer : (bs : List ℕ) → AreBytes bs → length bs < 4 → isCapture (begun start bs) ≡ false
+  -- and fewer have a smaller one than any four
+  pub fewer : (bs : List ℕ) → AreBytes bs → length bs < 4 → begun start bs < whole

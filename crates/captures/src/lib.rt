@@ -6,6 +6,9 @@ ghost use Rattle.captures.specs.Captures.{begun as Captures·begun};
 // Before the first byte.
 pub const START: u64 = 1;
 
+// Once there are four bytes.
+const WHOLE: u64 = 0x100000000;
+
 // A 1 and the first four bytes, high first, as one number: from that of the bytes so far, with these behind them.
 pub fn begun(first: u64, bytes: &[u8]) -> u64
     ensures { λ r. ⌜ r ≡ Captures·begun first (now (bytes .entry)) ⌝ }
@@ -13,7 +16,7 @@ pub fn begun(first: u64, bytes: &[u8]) -> u64
     let mut n = first;
     let mut i = 0;
     while i < bytes.len() {
-        if 0x100000000 <= n {
+        if WHOLE <= n {
             return n;
         }
         n = n * 256 + bytes[i] as u64;

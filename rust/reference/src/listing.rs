@@ -1,5 +1,5 @@
-//! The lister's output (RULES 'Listing'): one line for each answer to a stream, and
-//! a note where the stream is no recording.
+//! The lister's output (RULES 'Listing'): one line for each answer to a stream; and
+//! a note where the stream is no recording (RULES 'Notes').
 
 use std::io::{self, BufWriter, ErrorKind, Read, Write};
 

@@ -306,14 +306,3 @@ fn flags_over_the_limit_do_not_count() {
     assert_eq!(note_up_to(3, &stream), Some(Note::NoFlag));
     assert_eq!(note_up_to(4, &stream), None);
 }
-
-#[test]
-fn notes_begin_as_in_the_rule() {
-    let beginnings = [Note::Capture, Note::Empty, Note::NoFlag].map(Note::beginning);
-    let expected = [
-        "note: the input begins as a packet capture",
-        "note: the input is empty",
-        "note: the input has no flag",
-    ];
-    assert_eq!(beginnings, expected);
-}
