@@ -1,13 +1,17 @@
 // Packet captures, told from recordings by how their files begin (RULES 'Notes').
 ghost use mathlib.Core.Path.{_≡_};
 ghost use Rattle.captures.specs.Captures.{isCapture};
-ghost use Rattle.captures.specs.Captures.{begun as Captures·begun};
-
-// Before the first byte.
-pub const START: u64 = 1;
+ghost use Rattle.captures.specs.Captures.{start as Captures·start, begun as Captures·begun};
 
 // Once there are four bytes.
 const WHOLE: u64 = 0x100000000;
+
+// Before the first byte.
+pub fn start() -> u64
+    ensures { λ r. ⌜ r ≡ Captures·start ⌝ }
+{
+    1
+}
 
 // A 1 and the first four bytes, high first, as one number: from that of the bytes so far, with these behind them.
 pub fn begun(first: u64, bytes: &[u8]) -> u64

@@ -37,7 +37,7 @@ fn main() {
 // Reads until the input ends or the limit is reached: each turn but the last takes a byte or more.
 fn list_all(start: Lister, room: &mut [u8; 438]) -> Turn {
     let mut lister = start;
-    let mut first = captures::START;
+    let mut first = captures::start();
     let mut turns = listing::LIMIT;
     while turns > 0 {
         let turn = list_some(lister, first, room);

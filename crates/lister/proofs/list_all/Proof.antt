@@ -10,6 +10,9 @@ Inv-loop room₀ lister₀ first₀ turns₀ room lister first turns = Unit {0}
 abbrev μ-loop : tie.MeasureT-loop
 μ-loop room₀ lister₀ first₀ turns₀ room lister first turns = turns
 
+start-requires : tie.Need-start-requires Inv-loop μ-loop
+start-requires c κs = search needs
+
 loop-holds : tie.Need-loop-holds Inv-loop μ-loop
 loop-holds c = search needs
 
@@ -40,6 +43,7 @@ list-all-spec =
     (tie.spec
     Inv-loop
     μ-loop
+    start-requires
     loop-holds
     list-some-requires
     goes-on-requires
