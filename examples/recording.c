@@ -9,7 +9,7 @@ static void print_number(const char *name, uint8_t mark, long number, const char
 {
     static const char *const words[] = {"", "none", "over", "below"};
 
-    if (mark == GDL90_NUMBER)
+    if (mark == GDL90_PLAIN)
         printf("%s %ld %s", name, number, unit);
     else
         printf("%s %s", name, words[mark]);
@@ -115,7 +115,7 @@ static uint8_t print_report(const char *word, struct gdl90_report_read read)
     printf("%s: %06lX ", word, (unsigned long)r.address);
     for (int i = 0; i < 8; i++) /* a call sign may hold any bytes, and no zero ends it */
         putchar(r.call_sign[i] >= ' ' && r.call_sign[i] <= '~' ? r.call_sign[i] : '?');
-    if (r.position_mark == GDL90_NUMBER)
+    if (r.position_mark == GDL90_PLAIN)
         printf(", at %.5f %.5f", at.latitude, at.longitude);
     else
         printf(", position none");

@@ -1,5 +1,5 @@
 /* GDL 90 bytes: frames, collecting, messages, uplink payloads, weather texts, units. Link with libgdl90.a (`rt staticlib gdl90`),
-   which is for x86-64 with the System V ABI, so for Linux: structs are handed over by value.
+   which is for x86-64 with the System V ABI, so for Linux: structs are handed over by value. For C99 or newer and C++.
 
    Every function takes every input, ends, keeps nothing, and touches nothing but the memory it is given, so any thread may call it.
    A pointer and a length stand for bytes; where the length is 0 the pointer may be NULL. `room` and `message` of gdl90_feed are never
@@ -104,17 +104,17 @@ struct gdl90_feed_control {
     uint8_t phase; /* 0 to 4 */
 };
 
-/* Of control and room, each in its own declaration:
+/* Initialises control and room:
      struct gdl90_feed_control control = GDL90_FRESH;
      uint8_t room[GDL90_ROOM] = GDL90_FRESH;
-   To start anew it is enough to set the control so: the first flag clears the room. */
+   To start anew, assign a control that is so initialised. The room may hold anything then, as the first flag clears it. */
 #define GDL90_FRESH {0, 0}
 
 struct gdl90_feed_answer {
     struct gdl90_feed_control control; /* to be given to the next call */
     size_t taken;                      /* bytes taken: the next call goes on behind them */
     bool answered;                     /* the last of them closed a frame; else number and length are 0 */
-    uint8_t number;                    /* 0 to 5 */
+    uint8_t number;                    /* of 1, 2 and 3 the one that the bytes meet first; 4, 5, 0 */
     size_t length;                     /* of the message, 1 to 436, where answered with 0 */
 };
 
@@ -139,7 +139,7 @@ enum gdl90_id {
 /* A mark says what the field behind it is. With a mark other than 0 the field is 0 when read, and is not looked at when written. A
    field has only the marks named beside it; any other is refused with 8 when written, as is a field outside the range beside it. */
 enum gdl90_mark {
-    GDL90_NUMBER = 0, /* the field is a number; every field with a mark has this one */
+    GDL90_PLAIN = 0, /* the field is a plain number; every field with a mark has this one */
     GDL90_NONE = 1,
     GDL90_OVER = 2, /* a speed of 4,094 knots or more, a merit over 32,766 metres, a climb of more than 509 steps */
     GDL90_BELOW = 3 /* a descent of more than 509 steps */
@@ -185,7 +185,7 @@ struct gdl90_report { /* an ownship's or of traffic */
     uint8_t alert;                        /* 0 to 15 */
     uint8_t address_type;                 /* 0 to 15 */
     uint32_t address;                     /* 0 to 16,777,215 */
-    uint8_t position_mark;                /* of both; none, with integrity 0 only; with integrity 0 a position 0, 0 is none */
+    uint8_t position_mark;                /* of both; none. With integrity 0 the position 0, 0 is none: as a number it is refused */
     int32_t latitude;                     /* steps of 180 / 2^23 degrees, north positive, -4,194,304 to 4,194,304 */
     int32_t longitude;                    /* likewise, east positive, -8,388,608 to 8,388,607 */
     uint8_t altitude_mark;                /* none */

@@ -9,7 +9,7 @@ listing=$root/samples/recording.txt
 [ -x "$root/target/bin/lister" ] || { echo 'target/bin/lister is not built: run rt check lister' >&2; exit 1; }
 "$list" /dev/null > /dev/null 2>&1 # builds it anew where a source is newer
 tmp=$(mktemp -d)
-trap '[ ! -e "$tmp/socat" ] || kill "$(cat "$tmp/socat")" 2> /dev/null; rm -rf "$tmp"' EXIT
+trap 'if [ -e "$tmp/socat" ]; then kill "$(cat "$tmp/socat")" || true; fi; rm -rf "$tmp"' EXIT
 out=$tmp/out err=$tmp/err
 
 # run COMMAND...: its output, its word and its status are kept for check.
@@ -75,23 +75,29 @@ listings() {
 }
 
 arguments() {
-    local usage='usage: gdl90-list [FILE]' words
+    local words
     run "$list" --help
-    for words in "$usage" '  n  ' '  at  ' '  ans  ' '  id  ' '  len  ' 'xxd -s AT' "6: often a message of the maker's own, and no fault"; do
+    for words in '  n  ' '  at  ' '  ans  ' '  id  ' '  len  ' 'xxd -s AT' "Often a message of the maker's own, and no fault"; do
         grep -qF -- "$words" "$out" || wrong "help: no word of '$words'"
     done
-    check 'help' 0 "$out" ''
-    run "$list" --version
-    sed -n 's/^#define GDL90_VERSION "\(.*\)"$/gdl90-list \1/p' "$root/include/gdl90.h" > "$tmp/version.txt"
-    check "the header's version" 0 "$tmp/version.txt" ''
+    ! grep -qE '.{81}' "$out" || wrong 'help: a line over 80 characters'
+    [ "$status" -eq 0 ] && [ ! -s "$err" ] || wrong 'help'
+    echo 'ok: help'
     run "$list" "$sample" "$sample"
-    check 'two arguments' 2 /dev/null "$usage"
+    check 'two arguments' 2 /dev/null 'one FILE at most'
+    grep -qF 'usage: gdl90-list [FILE' "$err" || wrong 'two arguments: no usage'
     run "$list" -x
-    check 'an option that there is not' 2 /dev/null "$usage"
+    check 'an option that there is not' 2 /dev/null 'there is no option -x'
+    cd "$tmp"
+    cp "$sample" ./-x
+    run "$list" -- -x
+    check 'a name that begins with -' 0 "$listing" ''
+    run "$list" ''
+    check 'an empty name' 1 /dev/null "'' is not there"
     run "$list" "$tmp/none"
-    check 'a file that is not there' 1 /dev/null "$tmp/none is not there"
+    check 'a file that is not there' 1 /dev/null "'$tmp/none' is not there"
     run "$list" "$tmp"
-    check 'a folder' 1 /dev/null "$tmp is a folder"
+    check 'a folder' 1 /dev/null "'$tmp' is a folder"
     if [ "$(id -u)" -ne 0 ]; then
         touch "$tmp/shut" && chmod 0 "$tmp/shut"
         run "$list" "$tmp/shut"
@@ -211,6 +217,7 @@ receive() {
 
 stop_receiving() {
     kill "$(cat "$tmp/socat")"
+    rm "$tmp/socat"
     status=0
     wait "$receiver" || status=$?
 }
@@ -225,7 +232,7 @@ receiving() {
     cat "$sample" "$tmp/ten" > "$tmp/sent"
     "$list" "$tmp/sent" > "$tmp/sent.txt"
 
-    receive '| ./gdl90-list'
+    receive '- | ./gdl90-list'
     send "$sample" 300
     await has_lines "$out" 68 # all but the last line
     send "$tmp/ten" 65536
@@ -234,7 +241,7 @@ receiving() {
     check 'a receiver is watched' 0 "$tmp/sent.txt" ''
 
     one=$(grep -o 'UDP4-RECV:4000,range=[0-9./]*' "$root/README.md")
-    receive '| ./gdl90-list' "${one/=*\//=127.0.0.2/}"
+    receive '- | ./gdl90-list' "${one/=*\//=127.0.0.2/}"
     send "$sample" 300 127.0.0.3
     send "$sample" 300 127.0.0.2
     await has_lines "$out" 68
@@ -248,6 +255,13 @@ receiving() {
     stop_receiving
     cmp "$tmp/flight.gdl90" "$tmp/sent" || wrong 'another recording'
     echo 'ok: a receiver is recorded'
+
+    receive 'tee flight.gdl90 | ./gdl90-list'
+    send "$sample" 300
+    await has_lines "$out" 68
+    stop_receiving
+    cmp "$tmp/flight.gdl90" "$sample" || wrong 'another recording'
+    check 'a receiver is recorded and watched' 0 "$listing" ''
 }
 
 # A copy of the script in a tree of its own, whose only rt is the one that is put there.
@@ -283,8 +297,16 @@ built() {
     check "$@"
 }
 
+# With rt itself: it proves nothing anew here, and says so crate by crate.
+rebuilding() {
+    touch -d 2000-01-01 "$root/target/bin/lister"
+    run "$list" "$sample"
+    tail -n 1 "$err" | grep -qx 'gdl90-list: building the lister: \([0-9]*\) of \1 crates proved, last lister' || wrong 'another last step'
+    check 'a lister older than its source is built by rt' 0 "$listing" 'building the lister'
+}
+
 building() {
-    local copied=$tmp/copy/target/bin/lister tools=$tmp/tools source=$tmp/copy/crates/lister/src/main.rt
+    local tools=$tmp/tools source=$tmp/copy/crates/lister/src/main.rt log=$tmp/copy/target/gdl90-list.log
     environment=(env "PATH=$tools")
     mkdir -p "$tmp/copy/crates/lister/src" "$tools"
     for tool in sh dirname readlink find touch cp mkdir awk; do ln -s "$(command -v "$tool")" "$tools/$tool"; done
@@ -296,9 +318,13 @@ building() {
 
     put_rt 1
     run copy
-    built 'a build that fails names the log' 1 /dev/null "could not be built: $tmp/copy/target/gdl90-list.log says why"
-    grep -qx 'what is wrong' "$tmp/copy/target/gdl90-list.log" || wrong 'what is wrong is not in the log'
+    built 'a build that fails names the log' 1 /dev/null "could not be built: $log says why"
+    grep -qx 'what is wrong' "$log" || wrong 'what is wrong is not in the log'
     put_rt 0
+    rm "$log" && mkdir "$log"
+    run copy
+    check 'a log that cannot be written' 1 /dev/null 'the lister is not built, and'
+    rmdir "$log"
     run copy
     built 'first use builds' 0 "$listing" 'building the lister'
     run copy
@@ -307,23 +333,32 @@ building() {
     run copy
     built 'a newer source is built' 0 "$listing" 'building the lister'
     touch -d '+2 minutes' "$source"
-    run script -qec "${environment[*]} $tmp/copy/gdl90-list $sample > $tmp/listed" /dev/null
-    cmp "$tmp/listed" "$listing"
-    [ "$(grep -c . "$out")" = 1 ] && [ "$(tr '\r' '\n' < "$out" | grep -c 'building the lister')" = 3 ] || wrong 'not one line of progress'
-    echo 'ok: on a terminal progress is one line, written over'
-
+    on_a_terminal
     put_rt 1
     touch -d '+3 minutes' "$source"
     run copy
     built 'a newer source that is not proved' 1 /dev/null 'could not be built'
-    rm "$tools/rt"
+    without_building
+}
+
+on_a_terminal() {
+    local command
+    printf -v command '%q ' "${environment[@]}" "$tmp/copy/gdl90-list" "$sample"
+    run script -qec "$command > $(printf '%q' "$tmp/listed")" /dev/null
+    [ "$status" -eq 0 ] && cmp "$tmp/listed" "$listing" || wrong 'on a terminal'
+    [ "$(grep -c . "$out")" = 1 ] && [ "$(tr '\r' '\n' < "$out" | grep -c 'building the lister')" = 3 ] || wrong 'not one line of progress'
+    ! tr '\r' '\n' < "$out" | grep -qE '.{85}' || wrong 'progress over 80 characters, and 4 that control the terminal'
+    echo 'ok: on a terminal progress is one line, written over'
+}
+
+without_building() {
+    rm "$tmp/tools/rt"
     run copy
     check 'no rt, an older lister' 0 "$listing" 'older than its source'
     rm -r "$tmp/copy/crates" "$tmp/copy/crates.txt"
     run copy
     check 'a built lister is enough' 0 "$listing" ''
-
-    printf '#!/bin/sh\nkill -9 $$\n' > "$copied"
+    printf '#!/bin/sh\nkill -9 $$\n' > "$tmp/copy/target/bin/lister"
     run copy
     check 'a lister that is killed' 1 /dev/null 'ended with status'
 }
@@ -336,4 +371,5 @@ no_recordings
 captures
 as_it_arrives
 receiving
+rebuilding
 building

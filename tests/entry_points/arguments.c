@@ -86,8 +86,8 @@ static void put(bool *field, unsigned byte)
     memset(field, (int)byte, 1);
 }
 
-/* Two messages that are the same but for a bool: with that byte there, and with its lowest bit. */
-static void same_traffic(struct gdl90_report got, struct gdl90_report want)
+/* The messages of two reports that differ in a bool: one with that byte in it, one with its lowest bit. */
+static void same_reports(struct gdl90_report got, struct gdl90_report want)
 {
     uint8_t bytes[28], expected[28];
 
@@ -110,11 +110,11 @@ static void check_bools(void)
         want = report();
         want.airborne = byte % 2 != 0;
         put(&airborne.airborne, byte);
-        CASE(same_traffic(airborne, want));
+        CASE(same_reports(airborne, want));
         want = report();
         want.extrapolated = byte % 2 != 0;
         put(&extrapolated.extrapolated, byte);
-        CASE(same_traffic(extrapolated, want));
+        CASE(same_reports(extrapolated, want));
         put(&geometric.warning, byte);
         CHECK(gdl90_write_geometric(geometric, bytes, sizeof bytes).number, 0);
         CHECK(bytes[3], byte % 2 != 0 ? 0x80 : 0);
@@ -127,19 +127,23 @@ static void check_bools(void)
 /* GDL90_FRESH is all zero; and to start anew the control alone is enough, whatever the room holds: here a frame that broke off. */
 static void check_fresh(void)
 {
-    static const uint8_t broken[] = {0x7E, 0x00, 0x81, 0x41}, frame[] = {0x00, 0x7E, 0x00, 0x81, 0x41, 0xDB, 0xD0, 0x08, 0x02, 0xB3, 0x8B, 0x7E};
+    static const uint8_t broken[] = {0x7E, 0x00, 0x81, 0x41};
+    static const uint8_t frame[] = {0x00, 0x7E, 0x00, 0x81, 0x41, 0xDB, 0xD0, 0x08, 0x02, 0xB3, 0x8B, 0x7E};
     const struct gdl90_feed_control fresh = GDL90_FRESH;
     const uint8_t zeros[GDL90_ROOM] = {0};
+    struct gdl90_feed_control control = GDL90_FRESH;
     uint8_t room[GDL90_ROOM] = GDL90_FRESH, message[GDL90_LONGEST_MESSAGE];
     struct gdl90_feed_answer fed;
 
-    CHECK(fresh.count, 0);
-    CHECK(fresh.phase, 0);
+    CHECK(control.count, 0);
+    CHECK(control.phase, 0);
     CHECK_BYTES(room, zeros, sizeof room);
-    fed = gdl90_feed(fresh, room, message, broken, sizeof broken);
+    fed = gdl90_feed(control, room, message, broken, sizeof broken);
+    control = fed.control;
     CHECK(fed.answered, false);
-    CHECK(fed.control.count, 3);
-    fed = gdl90_feed(fresh, room, message, frame, sizeof frame);
+    CHECK(control.count, 3);
+    control = fresh;
+    fed = gdl90_feed(control, room, message, frame, sizeof frame);
     CHECK(fed.taken, sizeof frame);
     CHECK(fed.answered, true);
     CHECK(fed.number, GDL90_ACCEPTED);

@@ -11,21 +11,21 @@ use borrow.Author.Tests.{lt-ltb, le-ltb, ltb-false}
 use lib.ListN.{length, drop, getD, drop-of-length-le}
 use lib.Seq.{drop-cons}
 use Rattle.numbers.specs.Bytes.{AreBytes}
-use Rattle.captures.specs.Captures.{start, whole, begun, four}
+use Rattle.captures.specs.Captures.{start, least, begun, four}
 use Rattle.captures.specs.Claims.{Told}
 
 -- behind four bytes nothing counts
-pub full : (n : ℕ) (bs : List ℕ) → whole ≤ n → begun n bs ≡ n
+pub full : (n : ℕ) (bs : List ℕ) → least ≤ n → begun n bs ≡ n
 unfolding begun
 full n [] h = refl
-full n (b ∷ bs) h = rw (le-ltb n whole h)
+full n (b ∷ bs) h = rw (le-ltb n least h)
 
-one-more : (n b : ℕ) (bs : List ℕ) → n < whole → begun n (b ∷ bs) ≡ begun (n * 256 + b) bs
+one-more : (n b : ℕ) (bs : List ℕ) → n < least → begun n (b ∷ bs) ≡ begun (n * 256 + b) bs
 unfolding begun
-one-more n b bs h = rw (lt-ltb n whole h)
+one-more n b bs h = rw (lt-ltb n least h)
 
 -- from the bytes that are left
-pub next : (n : ℕ) (bs : List ℕ) (i : ℕ) → n < whole → i < length bs → begun n (drop i bs) ≡ begun (n * 256 + getD bs i 0) (drop (i + 1) bs)
+pub next : (n : ℕ) (bs : List ℕ) (i : ℕ) → n < least → i < length bs → begun n (drop i bs) ≡ begun (n * 256 + getD bs i 0) (drop (i + 1) bs)
 next n bs i few h = rw (add-one, drop-cons bs i 0) (one-more n _ _ few)
 
 pub none-left : (n : ℕ) (bs : List ℕ) (i : ℕ) → length bs ≤ i → begun n (drop i bs) ≡ n
@@ -33,7 +33,7 @@ unfolding begun
 none-left n bs i h = rw (drop-of-length-le bs h)
 
 pieces-by : (n x : ℕ) (xs ys : List ℕ) → begun (begun (n * 256 + x) xs) ys ≡ begun (n * 256 + x) (xs ++ ys)
-    → (t : Bool) → ltb n whole ≡ t → begun (begun n (x ∷ xs)) ys ≡ begun n ((x ∷ xs) ++ ys)
+    → (t : Bool) → ltb n least ≡ t → begun (begun n (x ∷ xs)) ys ≡ begun n ((x ∷ xs) ++ ys)
 unfolding begun
 pieces-by n x xs ys ih true e = rw e ih
 pieces-by n x xs ys ih false e = rw e (full n ys (ltb-false n _ e))
@@ -41,7 +41,7 @@ pieces-by n x xs ys ih false e = rw e (full n ys (ltb-false n _ e))
 pieces : (n : ℕ) (xs ys : List ℕ) → begun (begun n xs) ys ≡ begun n (xs ++ ys)
 unfolding begun
 pieces n [] ys = refl
-pieces n (x ∷ xs) ys = pieces-by n x xs ys (pieces (n * 256 + x) xs ys) (ltb n whole) refl
+pieces n (x ∷ xs) ys = pieces-by n x xs ys (pieces (n * 256 + x) xs ys) (ltb n least) refl
 
 first : (a b c d : ℕ) (bs : List ℕ) → AreBytes (a ∷ b ∷ c ∷ d ∷ []) → begun start (a ∷ b ∷ c ∷ d ∷ bs) ≡ four a b c d
 unfolding AreBytes
@@ -57,7 +57,7 @@ apart : (a b c d e f g h : ℕ) → AreBytes (a ∷ b ∷ c ∷ d ∷ []) → Ar
 unfolding AreBytes
 apart a b c d e f g h u v p = (omega arith, omega arith, omega arith, omega arith)
 
-fewer : (bs : List ℕ) → AreBytes bs → length bs < 4 → begun start bs < whole
+fewer : (bs : List ℕ) → AreBytes bs → length bs < 4 → begun start bs < least
 unfolding AreBytes begun
 fewer [] u h = omega arith
 fewer (a ∷ []) u h = omega arith

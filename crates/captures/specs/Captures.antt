@@ -9,18 +9,18 @@ use lib.Dec.{eqb, ltb}
 abbrev pub start : ℕ
 start = 1
 
--- once there are four bytes; below it as long as there are fewer
-abbrev pub whole : ℕ
-whole = 0x100000000
+-- the smallest number of four bytes: that of fewer is below it
+abbrev pub least : ℕ
+least = 0x100000000
 
 -- a 1 and then the first four bytes, high first, as one number: from that of the bytes so far, with these behind them
 unfoldable pub begun : ℕ → List ℕ → ℕ
 begun n [] = n
-begun n (b ∷ bs) = cond (ltb n whole) (begun (n * 256 + b) bs) n
+begun n (b ∷ bs) = cond (ltb n least) (begun (n * 256 + b) bs) n
 
 -- that number, of four bytes
 abbrev pub four : ℕ → ℕ → ℕ → ℕ → ℕ
-four a b c d = whole + a * 0x1000000 + b * 0x10000 + c * 0x100 + d
+four a b c d = least + a * 0x1000000 + b * 0x10000 + c * 0x100 + d
 
 -- pcap, in either order of bytes, with times in microseconds or in nanoseconds; pcapng
 abbrev pub isCapture : ℕ → Bool

@@ -5,7 +5,7 @@ use mathlib.Core.List.{List, [], _∷_, _++_}
 use Prim.Native.Nat.{ℕ, _<_}
 use lib.ListN.{length}
 use Rattle.numbers.specs.Bytes.{AreBytes}
-use Rattle.captures.specs.Captures.{start, whole, begun, four}
+use Rattle.captures.specs.Captures.{start, least, begun, four}
 
 pub record Told : Type 0 where
   -- in whatever pieces the bytes come
@@ -15,4 +15,4 @@ pub record Told : Type 0 where
   -- which no other four have
   pub apart : (a b c d e f g h : ℕ) → AreBytes (a ∷ b ∷ c ∷ d ∷ []) → AreBytes (e ∷ f ∷ g ∷ h ∷ []) → four a b c d ≡ four e f g h → (a ≡ e) × (b ≡ f) × (c ≡ g) × (d ≡ h)
   -- and fewer have a smaller one than any four
-  pub fewer : (bs : List ℕ) → AreBytes bs → length bs < 4 → begun start bs < whole
+  pub fewer : (bs : List ℕ) → AreBytes bs → length bs < 4 → begun start bs < least

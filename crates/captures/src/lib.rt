@@ -3,8 +3,8 @@ ghost use mathlib.Core.Path.{_≡_};
 ghost use Rattle.captures.specs.Captures.{isCapture};
 ghost use Rattle.captures.specs.Captures.{start as Captures·start, begun as Captures·begun};
 
-// Once there are four bytes.
-const WHOLE: u64 = 0x100000000;
+// The smallest number of four bytes: that of fewer is below it.
+const LEAST: u64 = 0x100000000;
 
 // Before the first byte.
 pub fn start() -> u64
@@ -14,13 +14,13 @@ pub fn start() -> u64
 }
 
 // A 1 and the first four bytes, high first, as one number: from that of the bytes so far, with these behind them.
-pub fn begun(first: u64, bytes: &[u8]) -> u64
-    ensures { λ r. ⌜ r ≡ Captures·begun first (now (bytes .entry)) ⌝ }
+pub fn begun(before: u64, bytes: &[u8]) -> u64
+    ensures { λ r. ⌜ r ≡ Captures·begun before (now (bytes .entry)) ⌝ }
 {
-    let mut n = first;
+    let mut n = before;
     let mut i = 0;
     while i < bytes.len() {
-        if WHOLE <= n {
+        if LEAST <= n {
             return n;
         }
         n = n * 256 + bytes[i] as u64;
@@ -29,10 +29,10 @@ pub fn begun(first: u64, bytes: &[u8]) -> u64
     n
 }
 
-// Whether a packet capture begins so: pcap, in either order of bytes, with times in microseconds or in nanoseconds; pcapng.
-pub fn is_capture(first: u64) -> bool
-    ensures { λ r. ⌜ r ≡ isCapture first ⌝ }
+// Whether it is the number of how a packet capture begins: pcap, in either order of bytes, with times in microseconds or in nanoseconds; pcapng.
+pub fn is_capture(n: u64) -> bool
+    ensures { λ r. ⌜ r ≡ isCapture n ⌝ }
 {
-    ((first == 0x1A1B2C3D4) | (first == 0x1D4C3B2A1))
-        | (((first == 0x1A1B23C4D) | (first == 0x14D3CB2A1)) | (first == 0x10A0D0D0A))
+    ((n == 0x1A1B2C3D4) | (n == 0x1D4C3B2A1))
+        | (((n == 0x1A1B23C4D) | (n == 0x14D3CB2A1)) | (n == 0x10A0D0D0A))
 }

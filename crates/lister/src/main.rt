@@ -15,8 +15,8 @@ enum Outcome {
 
 struct Turn {
     lister: Lister,
-    // how the input begins (`captures::begun`)
-    first: u64,
+    // how the input begins, as `captures::begun` has it
+    begun: u64,
     outcome: Outcome,
 }
 
@@ -31,23 +31,23 @@ fn main() {
     let last = list_all(lister, &mut room);
     let outcome = last.outcome;
     let lister = last.lister;
-    finish(lister, last.first, outcome);
+    finish(lister, last.begun, outcome);
 }
 
 // Reads until the input ends or the limit is reached: each turn but the last takes a byte or more.
 fn list_all(start: Lister, room: &mut [u8; 438]) -> Turn {
     let mut lister = start;
-    let mut first = captures::start();
+    let mut begun = captures::start();
     let mut turns = listing::LIMIT;
     while turns > 0 {
-        let turn = list_some(lister, first, room);
+        let turn = list_some(lister, begun, room);
         lister = turn.lister;
-        first = turn.first;
+        begun = turn.begun;
         let outcome = turn.outcome;
         if !goes_on(outcome) {
             return Turn {
                 lister,
-                first,
+                begun,
                 outcome,
             };
         }
@@ -55,7 +55,7 @@ fn list_all(start: Lister, room: &mut [u8; 438]) -> Turn {
     }
     Turn {
         lister,
-        first,
+        begun,
         outcome: Outcome::End,
     }
 }
@@ -70,36 +70,38 @@ fn goes_on(outcome: Outcome) -> bool {
 }
 
 // Reads once, and lists what came.
-fn list_some(lister: Lister, first: u64, room: &mut [u8; 438]) -> Turn {
+fn list_some(lister: Lister, before: u64, room: &mut [u8; 438]) -> Turn {
     let mut input = io::large_buffer();
     let got = libc::read(STDIN_FILENO, &mut input);
     if got < 0 {
         return Turn {
             lister,
-            first,
+            begun: before,
             outcome: Outcome::ReadFailed,
         };
     }
     if got == 0 {
         return Turn {
             lister,
-            first,
+            begun: before,
             outcome: Outcome::End,
         };
     }
     let n = io::count(got, &input);
-    let begun = captures::begun(first, &input[..n]);
-    note_capture(first, begun);
+    let begun = captures::begun(before, &input[..n]);
+    note_capture(before, begun);
     list_bytes(lister, begun, room, &input[..n])
 }
 
 // Once, when the bytes that came make it a capture.
-fn note_capture(before: u64, now: u64) {
-    if captures::is_capture(now) & !captures::is_capture(before) {
+fn note_capture(before: u64, begun: u64) {
+    if captures::is_capture(begun) & !captures::is_capture(before) {
         note(
             b"note: the input begins as a packet capture does (pcap, pcapng): its own headers are listed as faults\n",
         );
-        note(b"note: this takes the receiver's bytes out of it:\n");
+        note(
+            b"note: this takes the receiver's bytes out of it, if they were sent to port 4000 as is usual:\n",
+        );
         note(
             b"note: tshark -r CAPTURE -Y 'udp.dstport == 4000' -T fields -e udp.payload | xxd -r -p > recording.gdl90\n",
         );
@@ -107,7 +109,7 @@ fn note_capture(before: u64, now: u64) {
 }
 
 // Lists a stretch of the input, and writes its text as often as the room for it is full.
-fn list_bytes(start: Lister, first: u64, room: &mut [u8; 438], bytes: &[u8]) -> Turn {
+fn list_bytes(start: Lister, begun: u64, room: &mut [u8; 438], bytes: &[u8]) -> Turn {
     let mut space = io::buffer();
     let out: &mut [u8] = &mut space;
     let mut lister = start;
@@ -120,14 +122,14 @@ fn list_bytes(start: Lister, first: u64, room: &mut [u8; 438], bytes: &[u8]) -> 
         if !io::write_all(STDOUT_FILENO, &out[..written]) {
             return Turn {
                 lister,
-                first,
+                begun,
                 outcome: Outcome::WriteFailed,
             };
         }
         if taken == 0 {
             return Turn {
                 lister,
-                first,
+                begun,
                 outcome: Outcome::End,
             };
         }
@@ -135,14 +137,14 @@ fn list_bytes(start: Lister, first: u64, room: &mut [u8; 438], bytes: &[u8]) -> 
     }
     Turn {
         lister,
-        first,
+        begun,
         outcome: Outcome::More,
     }
 }
 
 // The last line, unless the output is closed, and a note where the whole input is no recording. After a read that failed
 // the line stands for what was read, and there is no note.
-fn finish(lister: Lister, first: u64, outcome: Outcome) {
+fn finish(lister: Lister, begun: u64, outcome: Outcome) {
     say(outcome);
     if let Outcome::WriteFailed = outcome {
         return;
@@ -154,17 +156,17 @@ fn finish(lister: Lister, first: u64, outcome: Outcome) {
         return;
     }
     if let Outcome::End = outcome {
-        note_no_frame(lister, first);
+        note_no_frame(lister, begun);
     }
 }
 
 // The first note that holds is enough: a capture has had its own.
-fn note_no_frame(lister: Lister, first: u64) {
-    if listing::has_flag(lister) | captures::is_capture(first) {
+fn note_no_frame(lister: Lister, begun: u64) {
+    if listing::has_flag(lister) | captures::is_capture(begun) {
         return;
     }
     if lister.taken == 0 {
-        note(b"note: the input is empty\n");
+        note(b"note: the input is empty: was anything recorded?\n");
         return;
     }
     note(

@@ -6,7 +6,7 @@ use std::collections::HashSet;
 use std::fmt::Debug;
 
 use compare::messages::to_reference;
-use gdl90::raw::{self, BELOW, NONE, NUMBER, OVER};
+use gdl90::raw::{self, BELOW, NONE, OVER, PLAIN};
 use gdl90::{GeometricSteps, Message, PressureSteps, TerrainFeet, MESSAGE_MAX};
 
 /// Written and read again, field by field; answers the message.
@@ -85,13 +85,13 @@ fn initializations() {
 #[test]
 fn uplinks() {
     let payload: Vec<u8> = (0..432).map(|n| (n % 251) as u8).collect();
-    for (reception_mark, reception) in [(NUMBER, 0x9A_BCDE), (NUMBER, 12_499_999), (NONE, 0)] {
+    for (reception_mark, reception) in [(PLAIN, 0x9A_BCDE), (PLAIN, 12_499_999), (NONE, 0)] {
         let raw = raw::Uplink {
             reception_mark,
             reception,
         };
         let value = reference::messages::Uplink {
-            reception: (reception_mark == NUMBER).then_some(reception),
+            reception: (reception_mark == PLAIN).then_some(reception),
             payload: payload.clone(),
         };
         let expected = reference::messages::write(&reference::messages::Message::Uplink(value));
@@ -107,7 +107,7 @@ fn uplinks() {
 
 #[test]
 fn heights() {
-    let heights = [0x1234, -0x1234, 32_767, -32_767].map(|feet| (NUMBER, feet));
+    let heights = [0x1234, -0x1234, 32_767, -32_767].map(|feet| (PLAIN, feet));
     for (height_mark, feet) in heights.into_iter().chain([(NONE, 0)]) {
         let raw = raw::Height {
             height_mark,
@@ -133,8 +133,8 @@ fn geometric_altitudes() {
             raw::read_geometric,
         )
     };
-    assert_distinct(&check(-0x1234, true, NUMBER, 0x5A6C));
-    check(i16::MIN, false, NUMBER, 32_766);
+    assert_distinct(&check(-0x1234, true, PLAIN, 0x5A6C));
+    check(i16::MIN, false, PLAIN, 32_766);
     check(i16::MAX, true, OVER, 0);
     check(-1, false, NONE, 0);
 }
@@ -150,19 +150,19 @@ const DISTINCT: raw::Report = raw::Report {
     alert: 0xA,
     address_type: 5,
     address: 0x3C_71E8,
-    position_mark: NUMBER,
+    position_mark: PLAIN,
     latitude: 0x2B_964D,
     longitude: -0x4E_210C,
-    altitude_mark: NUMBER,
+    altitude_mark: PLAIN,
     altitude: PressureSteps(0x9C7),
     track_kind: 2,
     extrapolated: true,
     airborne: true,
     integrity: 11,
     accuracy: 6,
-    speed_mark: NUMBER,
+    speed_mark: PLAIN,
     speed: 0xD38,
-    climb_mark: NUMBER,
+    climb_mark: PLAIN,
     climb: -303,
     track: 0x47,
     emitter: 0x19,

@@ -494,7 +494,7 @@ fn send(mut stream: impl Read, input: &mut dyn Write) -> io::Result<()> {
     }
 }
 
-/// Takes 20 seconds: `cargo test --manifest-path rust/Cargo.toml --release
+/// Both that are ignored: `cargo test --manifest-path rust/Cargo.toml --release
 /// --offline -p compare --test listing -- --ignored`
 #[test]
 #[ignore = "more than 4 GiB"]

@@ -4,7 +4,7 @@ use std::fmt::Debug;
 use std::hint::black_box;
 
 use compare::messages::{from_reference, to_reference};
-use gdl90::raw::{self, WriteAnswer, BELOW, NONE, NUMBER, OVER};
+use gdl90::raw::{self, WriteAnswer, BELOW, NONE, OVER, PLAIN};
 use gdl90::Error;
 use reference::messages::{
     AltitudeSteps, Climb, FiveFootSteps, GeometricAltitude, Heartbeat, Height, Merit, Message,
@@ -530,7 +530,7 @@ fn refusals_of_an_uplink_have_their_order() {
         (432, last, 435, OUTPUT_TOO_SHORT),
     ] {
         let value = raw::Uplink {
-            reception_mark: NUMBER,
+            reception_mark: PLAIN,
             reception,
         };
         let payload = vec![0; length];

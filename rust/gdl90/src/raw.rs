@@ -11,7 +11,7 @@ mod values;
 pub use values::{
     id, DegreesAnswer, FeedAnswer, FeedControl, FrameAnswer, Geometric, Heartbeat, Height,
     Initialization, PayloadListAnswer, PayloadNthAnswer, Read, Report, TextAnswer, Uplink,
-    WriteAnswer, BELOW, NONE, NUMBER, OVER,
+    WriteAnswer, BELOW, NONE, OVER, PLAIN,
 };
 
 use crate::units::{GeometricSteps, PressureSteps, TerrainFeet};

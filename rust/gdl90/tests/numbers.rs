@@ -6,6 +6,7 @@ mod c;
 use std::process::Command;
 use std::sync::OnceLock;
 
+use gdl90::raw::id;
 use gdl90::Error;
 
 /// What 0 is: `Ok`, and no case of `Error`.
@@ -84,17 +85,46 @@ fn explained<'a>(
         .collect()
 }
 
+/// The page on the sample, which says what the lister's help says.
+fn page() -> String {
+    std::fs::read_to_string(c::root().join("samples/README.md")).expect("the page")
+}
+
+#[test]
+fn the_lister_names_the_kinds() {
+    let kinds = [
+        (id::HEARTBEAT, "heartbeat"),
+        (id::INITIALIZATION, "initialization"),
+        (id::UPLINK, "uplink"),
+        (id::HEIGHT, "height above terrain"),
+        (id::OWNSHIP, "ownship"),
+        (id::GEOMETRIC, "geometric altitude"),
+        (id::TRAFFIC, "traffic"),
+    ];
+    let kinds = kinds.map(|(id, kind)| format!("{id} {kind}")).join(", ");
+    for text in [lister_says("--help"), page()] {
+        let words: Vec<&str> = text.split_whitespace().collect();
+        assert!(
+            words.join(" ").contains(&format!("Ids: {kinds};")),
+            "{text}"
+        );
+    }
+}
+
 #[test]
 fn the_lister_explains_its_answers_in_these_words() {
     let said = LISTED.map(|number| (number, words(number).expect("words")));
     let expected: Vec<(u8, &str)> = said.iter().map(|(n, words)| (*n, &words[..])).collect();
 
     let help = lister_says("--help");
-    let answers = explained(&help, |line| line.trim_start().split_once("  "));
+    // What to do with an answer stands further to the right.
+    let answers = explained(&help, |line| {
+        let row = line.trim_start().split_once("  ");
+        row.filter(|(_, words)| !words.starts_with(' '))
+    });
     assert_eq!(answers, expected);
 
-    let page = c::root().join("samples/README.md");
-    let page = std::fs::read_to_string(page).expect("the page");
+    let page = page();
     let mut rows = explained(&page, |line| {
         let (number, rest) = line.strip_prefix("| ")?.split_once(" | ")?;
         Some((number, rest.split_once(" | ")?.0))

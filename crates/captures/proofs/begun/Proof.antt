@@ -11,10 +11,10 @@ use Rattle.captures.proofs.begun.Statement.{statement}
 use Rattle.captures.proofs.begun.Tie as tie
 
 abbrev Inv-loop : tie.InvT-loop
-Inv-loop first bytes n₀ i₀ n i = (i ≤ length bytes) × (begun n (drop i bytes) ≡ begun first bytes)
+Inv-loop before bytes n₀ i₀ n i = (i ≤ length bytes) × (begun n (drop i bytes) ≡ begun before bytes)
 
 abbrev μ-loop : tie.MeasureT-loop
-μ-loop first bytes n₀ i₀ n i = length bytes - i
+μ-loop before bytes n₀ i₀ n i = length bytes - i
 
 loop-holds : tie.Need-loop-holds Inv-loop μ-loop
 loop-holds c = search needs

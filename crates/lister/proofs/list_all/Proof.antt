@@ -5,10 +5,10 @@ use Rattle.lister.proofs.list_all.Statement.{statement}
 use Rattle.lister.proofs.list_all.Tie as tie
 
 abbrev Inv-loop : tie.InvT-loop
-Inv-loop room₀ lister₀ first₀ turns₀ room lister first turns = Unit {0}
+Inv-loop room₀ lister₀ begun₀ turns₀ room lister begun turns = Unit {0}
 
 abbrev μ-loop : tie.MeasureT-loop
-μ-loop room₀ lister₀ first₀ turns₀ room lister first turns = turns
+μ-loop room₀ lister₀ begun₀ turns₀ room lister begun turns = turns
 
 start-requires : tie.Need-start-requires Inv-loop μ-loop
 start-requires c κs = search needs

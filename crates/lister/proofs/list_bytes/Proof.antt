@@ -9,10 +9,10 @@ use Rattle.lister.proofs.list_bytes.Statement.{statement}
 use Rattle.lister.proofs.list_bytes.Tie as tie
 
 abbrev Inv-loop : tie.InvT-loop
-Inv-loop first room₀ bytes out₀ lister₀ i₀ room out lister i = i ≤ length bytes
+Inv-loop begun room₀ bytes out₀ lister₀ i₀ room out lister i = i ≤ length bytes
 
 abbrev μ-loop : tie.MeasureT-loop
-μ-loop first room₀ bytes out₀ lister₀ i₀ room out lister i = length bytes - i
+μ-loop begun room₀ bytes out₀ lister₀ i₀ room out lister i = length bytes - i
 
 buffer-requires : tie.Need-buffer-requires Inv-loop μ-loop
 buffer-requires c κs = search needs

@@ -3,7 +3,7 @@
 use std::fmt;
 
 use super::marks::{marked, unmarked};
-use crate::raw::{self, NONE, NUMBER, OVER};
+use crate::raw::{self, NONE, OVER, PLAIN};
 use crate::{Error, GeometricSteps, TerrainFeet};
 
 /// Height above terrain, if there is one, 001 §3.7.
@@ -64,7 +64,7 @@ impl From<GeometricAltitude> for raw::Geometric {
     #[inline]
     fn from(geometric: GeometricAltitude) -> Self {
         let (merit_mark, merit) = match geometric.merit {
-            Some(Merit::Metres(metres)) => (NUMBER, metres),
+            Some(Merit::Metres(metres)) => (PLAIN, metres),
             Some(Merit::Over) => (OVER, 0),
             None => (NONE, 0),
         };

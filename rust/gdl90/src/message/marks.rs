@@ -1,13 +1,13 @@
 //! Numbers with a mark, as the C functions have them.
 
-use crate::raw::{NONE, NUMBER};
+use crate::raw::{NONE, PLAIN};
 use crate::Error;
 
 /// Mark and number.
 #[inline]
 pub fn marked<T: Default>(number: Option<T>) -> (u8, T) {
     match number {
-        Some(number) => (NUMBER, number),
+        Some(number) => (PLAIN, number),
         None => (NONE, T::default()),
     }
 }
@@ -17,7 +17,7 @@ pub fn marked<T: Default>(number: Option<T>) -> (u8, T) {
 #[inline]
 pub fn unmarked<T>(mark: u8, number: T) -> Result<Option<T>, Error> {
     match mark {
-        NUMBER => Ok(Some(number)),
+        PLAIN => Ok(Some(number)),
         NONE => Ok(None),
         _ => Err(Error::OutOfRange),
     }

@@ -4,7 +4,7 @@ use std::borrow::Cow;
 use std::fmt;
 
 use super::marks::{marked, unmarked};
-use crate::raw::{self, BELOW, NONE, NUMBER, OVER};
+use crate::raw::{self, BELOW, NONE, OVER, PLAIN};
 use crate::{Error, Position, PressureSteps};
 
 /// Where an aircraft is and what it does: the ownship's, or traffic's.
@@ -219,7 +219,7 @@ impl TryFrom<raw::Report> for Report {
 #[inline]
 fn raw_position(position: Option<Position>) -> (u8, i32, i32) {
     match position {
-        Some(position) => (NUMBER, position.latitude, position.longitude),
+        Some(position) => (PLAIN, position.latitude, position.longitude),
         None => (NONE, 0, 0),
     }
 }
@@ -238,7 +238,7 @@ fn track_kind(kind: u8) -> Result<TrackKind, Error> {
 #[inline]
 fn raw_speed(speed: Option<Speed>) -> (u8, u16) {
     match speed {
-        Some(Speed::Knots(knots)) => (NUMBER, knots),
+        Some(Speed::Knots(knots)) => (PLAIN, knots),
         Some(Speed::Over) => (OVER, 0),
         None => (NONE, 0),
     }
@@ -255,7 +255,7 @@ fn speed(mark: u8, knots: u16) -> Result<Option<Speed>, Error> {
 #[inline]
 fn raw_climb(climb: Option<Climb>) -> (u8, i32) {
     match climb {
-        Some(Climb::Steps(steps)) => (NUMBER, steps.into()),
+        Some(Climb::Steps(steps)) => (PLAIN, steps.into()),
         Some(Climb::Above) => (OVER, 0),
         Some(Climb::Below) => (BELOW, 0),
         None => (NONE, 0),

@@ -8,7 +8,7 @@ use crate::error::{accepted, Error};
 use crate::units::{GeometricSteps, PressureSteps, TerrainFeet};
 
 /// Mark: the field is a number.
-pub const NUMBER: u8 = 0;
+pub const PLAIN: u8 = 0;
 /// Mark: there is no number.
 pub const NONE: u8 = 1;
 /// Mark of a speed or a figure of merit; of a climb: more than 509 steps up.
