@@ -263,7 +263,7 @@ mod tests {
         assert_eq!(end, "end 11 12");
     }
 
-    /// The table's first two columns are the line and its answer.
+    /// The first two columns of its table are the line and its answer.
     #[test]
     fn readme_names_the_lines_that_are_refused() {
         let (lines, _) = lines();
@@ -271,9 +271,12 @@ mod tests {
         let expected: Vec<String> = numbered
             .map(|(number, line)| format!("{number} {}", line[0]))
             .collect();
-        let rows = README.lines().filter(|row| row.starts_with("| "));
-        let named: Vec<String> = rows
-            .skip(1)
+        let table = README
+            .lines()
+            .skip_while(|row| !row.starts_with("| Line |"));
+        let named: Vec<String> = table
+            .take_while(|row| row.starts_with('|'))
+            .skip(2)
             .map(|row| {
                 let columns: Vec<&str> = row.split('|').map(str::trim).collect();
                 columns[1..3].join(" ")
