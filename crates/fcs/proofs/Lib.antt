@@ -1,8 +1,15 @@
 pub mod Sums
 pub mod Division
 pub mod Linearity
-pub mod Bursting
+pub mod Zeros
 pub mod Shortest
 pub mod Quotient
 pub mod Words
 pub mod Pairwise
+pub mod Rows
+pub mod Bursting
+pub mod Border
+pub mod Serial
+pub mod Parity
+pub mod Powers
+pub mod Pairs

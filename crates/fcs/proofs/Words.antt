@@ -2,45 +2,20 @@
 -- Assumes nothing.
 use mathlib.Core.Path.{_≡_, refl, sym, ap, ap₂, _∙_}
 use Prim.Native.Nat.{ℕ, _+_, _*_, _/_, _%_, _^_, _<_}
-use mathlib.Core.List.{List, [], _∷_, foldl}
+use mathlib.Core.List.{[], _∷_, foldl}
 use native.Mathlib.Omega.{arith}
-use lib.ListN.{length, replicate, length-replicate}
 use Rattle.numbers.specs.Bits.{_⊕_, bit}
 use Rattle.numbers.specs.Packing.{bitsOf, bitsIn}
-use Rattle.numbers.proofs.Packing.{bits-in, length-bitsIn}
+use Rattle.numbers.proofs.Packing.{bits-in}
 use Rattle.numbers.proofs.Every.{every}
-use Rattle.numbers.proofs.Xor.{zero-⊕, ⊕-zero, ⊕-assoc}
+use Rattle.numbers.proofs.Xor.{⊕-assoc}
 use Rattle.fcs.specs.Fcs.{step, bits, byteStep, fcs}
-use Rattle.fcs.specs.Flips.{flip}
 use Rattle.fcs.specs.Words.{wordOf, halfStep, byHalves}
 use Rattle.fcs.specs.Claims.{HalfBytes}
 use Rattle.fcs.proofs.Division.{fold-lt}
-use Rattle.fcs.proofs.Linearity.{fold-linear}
+use Rattle.fcs.proofs.Zeros.{leave, leave-additive, divided}
 use Rattle.fcs.proofs.Shortest.{short}
 use Rattle.fcs.proofs.Sums.{Additive, same, shr, low, shl, plus, after, agree}
-
--- what a remainder is with k zero bits more
-leave : ℕ → ℕ → ℕ
-leave k r = foldl step r (replicate k 0)
-
-blank : (ws : List ℕ) → flip (replicate (length ws) 0) ws ≡ ws
-unfolding flip
-blank [] = refl
-blank (w ∷ ws) = ap₂ (λ (x : ℕ) (xs : List ℕ). x ∷ xs) (zero-⊕ w) (blank ws)
-
--- dividing on from a sum: the one part over zero bits, the other over the bits themselves
-apart : (ws : List ℕ) (r s : ℕ) → foldl step (r ⊕ s) ws ≡ leave (length ws) r ⊕ foldl step s ws
-unfolding leave
-apart ws r s = ap (foldl step (r ⊕ s)) (sym (blank ws)) ∙ fold-linear (replicate (length ws) 0) ws r s (length-replicate (length ws) 0)
-
-leave-additive : (k : ℕ) → Additive (leave k)
-unfolding leave
-leave-additive k = record { adds = λ x y. apart (replicate k 0) x y ∙ ap (λ (n : ℕ). leave n x ⊕ leave k y) (length-replicate k 0) }
-
-divided : (m : List ℕ) (r : ℕ) → foldl step r (bits m) ≡ leave (length m * 8) r ⊕ fcs m
-unfolding fcs
-divided m r =
-    ap (λ (n : ℕ). foldl step n (bits m)) (sym (⊕-zero r)) ∙ apart (bits m) r 0 ∙ ap (λ (n : ℕ). leave n r ⊕ foldl step 0 (bits m)) (length-bitsIn 8 m)
 
 -- a word is what its half byte comes back as
 comes-back : (i : ℕ) → wordOf (i % 16) ≡ leave 16 (i % 16)

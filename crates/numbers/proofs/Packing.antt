@@ -45,7 +45,7 @@ bits-low (suc k) j x y h =
     (bits-low k j x y (omega arith))
 
 -- bits behind others are those of one number
-bits-join : (i j x y : ℕ) → y < 2 ^ j → bitsOf i x ++ bitsOf j y ≡ bitsOf (i + j) (x * 2 ^ j + y)
+pub bits-join : (i j x y : ℕ) → y < 2 ^ j → bitsOf i x ++ bitsOf j y ≡ bitsOf (i + j) (x * 2 ^ j + y)
 bits-join i j x y h =
     sym (bits-split i j (x * 2 ^ j + y) ∙ ap₂ (λ (n : ℕ) (l : List ℕ). bitsOf i n ++ l) (digits-div x h) (bits-low j j x y (omega arith)))
 
@@ -85,7 +85,7 @@ pub both-bits : (xs ys : List ℕ) → AreBits xs → AreBits ys → AreBits (xs
 both-bits [] ys h k = k
 both-bits (x ∷ xs) ys h k = (h .0, both-bits xs ys (h .1) k)
 
-bits-of : (k n : ℕ) → AreBits (bitsOf k n)
+pub bits-of : (k n : ℕ) → AreBits (bitsOf k n)
 unfolding bitsOf
 bits-of zero n = tt
 bits-of (suc k) n = (bit-lt k n, bits-of k n)

@@ -60,6 +60,9 @@ pub ⊕-left : (a b c : ℕ) → a ⊕ (b ⊕ c) ≡ b ⊕ (a ⊕ c)
 pub ⊕-cancel : (a b : ℕ) → a ⊕ (a ⊕ b) ≡ b
 ⊕-cancel a b = sym (⊕-assoc a a b) ∙ ap (λ (n : ℕ). n ⊕ b) (⊕-self a) ∙ zero-⊕ b
 
+pub ⊕-same : (a b : ℕ) → a ⊕ b ≡ 0 → a ≡ b
+⊕-same a b e = sym (⊕-zero a) ∙ ap (λ (n : ℕ). a ⊕ n) (sym e) ∙ ⊕-cancel a b
+
 pub ruleset ⊕-laws = (⊕-assoc, ⊕-comm, ⊕-left)
 
 pub ⊕-bit : (k a b : ℕ) → bit k (a ⊕ b) ≡ bit k a ⊕ bit k b
