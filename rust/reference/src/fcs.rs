@@ -67,6 +67,7 @@ mod tests {
         let heartbeat = [0x00, 0x81, 0x41, 0xDB, 0xD0, 0x08, 0x02];
         assert_eq!(check_sequence(&heartbeat), 0x8BB3);
         assert_eq!(check_sequence(&[0x01, 0x00, 0x00]), 0x1021);
+        assert_eq!(check_sequence(&[0x01, 0x10, 0x21]), 0);
     }
 
     /// The first 16 are the words of RULES 'Check sequence'.
