@@ -16,7 +16,8 @@ static void sequence_is(const uint8_t *message, size_t length, uint16_t want)
 
 static void check_sequences(void)
 {
-    static const uint8_t x16[] = {0x01, 0x00, 0x00}, x23[] = {0x80, 0x00, 0x00}, four_flips[] = {0x01, 0x10, 0x21};
+    static const uint8_t x16[] = {0x01, 0x00, 0x00}, x23[] = {0x80, 0x00, 0x00};
+    static const uint8_t four_flips[] = {0x01, 0x10, 0x21}, six_flips[] = {0x23, 0x14, 0x01};
     /* the 16 words of RULES 'Check sequence', which are the first 16 of 001's table */
     static const uint16_t words[16] = {0x0000, 0x1021, 0x2042, 0x3063, 0x4084, 0x50A5, 0x60C6, 0x70E7,
                                        0x8108, 0x9129, 0xA14A, 0xB16B, 0xC18C, 0xD1AD, 0xE1CE, 0xF1EF};
@@ -38,6 +39,7 @@ static void check_sequences(void)
     CASE(sequence_is(x16, sizeof x16, 0x1021));             /* and 2 */
     CASE(sequence_is(x23, sizeof x23, 0x9188));             /* 001's table at 0x80 */
     CASE(sequence_is(four_flips, sizeof four_flips, 0));    /* RULES 'What the check sequence finds' */
+    CASE(sequence_is(six_flips, sizeof six_flips, 0));
     /* leading zeros change no remainder: longer than any message, and not refused */
     memcpy(far + sizeof far - sizeof HEARTBEAT, HEARTBEAT, sizeof HEARTBEAT);
     CASE(sequence_is(far, sizeof far, 0x8BB3));

@@ -20,6 +20,7 @@ use Rattle.fcs.proofs.Pairs.{pairs, singles}
 use Rattle.fcs.proofs.Quotient.{remainder}
 use Rattle.fcs.proofs.Rows.{ones-sequence}
 use Rattle.fcs.proofs.Serial.{serial-bursts}
+use Rattle.fcs.proofs.SerialBorder.{serial-border}
 use Rattle.fcs.proofs.Shortest.{itself, number-of}
 use Rattle.collecting.specs.Stream.{message, refused}
 use Rattle.collecting.specs.Claims.{Answered, Flips, flipped, OddFound, PairsFound, EightFound, SerialFound, OnePasses, PairsPass, BurstsPass}
@@ -77,18 +78,31 @@ unfolding bitsOf bitsIn bit
 last-byte zero b h = number-of 8 b 0 ∙ omega arith
 last-byte (suc n) b h = last-byte n b h
 
+-- flips that are their own remainder, and agree only where the high byte has none
+in-low-byte : (before m flips : List ℕ) (low high : ℕ) → Flips m flips low high
+    → fcs flips ≡ polynomial (bits flips) → (polynomial (bits flips) ≡ 256 * high + low → high ≡ 0)
+    → Answered before (flipped m flips low high) (cond (eqb high 0 && eqb (polynomial (bits flips)) low) (message (flip m flips)) (refused 5))
+in-low-byte before m flips low high f own none =
+    let s = 256 * high + low in
+    let p = polynomial (bits flips) in
+    by-test before m flips low high (eqb high 0 && eqb p low) f
+    (same-test _ _
+    (λ e. let t : p ≡ s = sym own ∙ eqb-true (fcs flips) s e in
+    let high0 : high ≡ 0 = none t in
+    rw (eq-eqb high 0 high0) (eq-eqb p low (omega arith)))
+    (λ e. let t = both (eqb high 0) (eqb p low) e in
+    eq-eqb (fcs flips) s (own ∙ omega (arith, eqb-true high 0 (t .0), eqb-true p low (t .1)))))
+
 pub bursts-pass : BurstsPass
 bursts-pass = record {
   answered = λ before m flips low high i f all some also.
-      let s = 256 * high + low in
-      let p = polynomial (bits flips) in
       let b = over-the-border flips low high 16 i (f .low-byte) (f .high-byte) (omega arith) all some also in
-      by-test before m flips low high (eqb high 0 && eqb p low) f
-      (same-test _ _
-      (λ e. let t : p ≡ s = sym (b .0) ∙ eqb-true (fcs flips) s e in
-      let high0 : high ≡ 0 = b .1 t .0 in
-      rw (eq-eqb high 0 high0) (eq-eqb p low (omega arith)))
-      (λ e. let t = both (eqb high 0) (eqb p low) e in
-      eq-eqb (fcs flips) s (b .0 ∙ omega (arith, eqb-true high 0 (t .0), eqb-true p low (t .1)))));
-  each = λ n b h. (within-16 n b, last-byte n b h);
+      in-low-byte before m flips low high f (b .0) (λ e. b .1 e .0);
+  serially = λ before m flips low high i f all some also.
+      let b = serial-border flips low high i (f .low-byte) (f .high-byte) all also in
+      in-low-byte before m flips low high f (b .0) (b .1);
+  each = λ before m n b f.
+      let flips = replicate n 0 ++ b ∷ [] in
+      let own : fcs flips ≡ b = itself flips b (last-byte n b (f .low-byte)) (omega (arith, f .low-byte)) in
+      (within-16 n b, by-test before m flips b 0 true f (eq-eqb (fcs flips) (256 * 0 + b) (omega arith)));
 }

@@ -21,9 +21,9 @@ use Rattle.fcs.proofs.Shortest.{number-two, itself, two}
 use Rattle.fcs.proofs.Zeros.{blank-bits, shifted}
 
 -- message and sequence as one number
-joined : (flips : List ℕ) (low high : ℕ) → low < 256 → high < 256
+one-number : (flips : List ℕ) (low high : ℕ) → low < 256 → high < 256
     → behind 0 (bits (flips ++ low ∷ high ∷ [])) ≡ behind 0 (bits flips) * 65536 + 256 * low + high
-joined flips low high hl hh =
+one-number flips low high hl hh =
     ap (behind 0) (bitsIn-append 8 flips (low ∷ high ∷ [])) ∙ foldl-append _ 0 (bits flips) (bits (low ∷ high ∷ [])) ∙ number-two low high (behind 0 (bits flips)) ∙ omega arith
 
 -- the flips b of the message's last byte and of the low byte: 8 bits in a row do not hold them
@@ -79,8 +79,8 @@ module _ (v low high n : ℕ) (hl : low < 256) (hh : high < 256) (hn : n ≤ 16)
 pub over-the-border : OverTheBorder
 over-the-border flips low high n i hl hh hn all some also =
     let v = behind 0 (bits flips) in
-    let whole = flips ++ low ∷ high ∷ [] in
-    let s : Shifted n (v * 65536 + 256 * low + high) = subst (Shifted n) (joined flips low high hl hh) (row n i (bits whole) (bits-in 8 whole) all) in
+    let both = flips ++ low ∷ high ∷ [] in
+    let s : Shifted n (v * 65536 + 256 * low + high) = subst (Shifted n) (one-number flips low high hl hh) (row n i (bits both) (bits-in 8 both) all) in
     let b = border v low high n hl hh hn (omega (arith, grows (bits flips) 0)) also s in
     (itself flips v refl (b .0), b .1)
 
@@ -95,10 +95,10 @@ within-8 flips low high i hl hh all some e = go (eqb (256 * high + low) 0) (eqb 
     go true q f g =
         let s0 : 256 * high + low ≡ 0 = eqb-true (256 * high + low) 0 f in
         let zero : 256 * (low % 256) + high % 256 ≡ 0 = omega arith in
-        let whole = bits (flips ++ low ∷ high ∷ []) in
-        let divided : foldl step 0 whole ≡ 0
+        let both = bits (flips ++ low ∷ high ∷ []) in
+        let divided : foldl step 0 both ≡ 0
         = ap (foldl step 0) (bitsIn-append 8 flips (low ∷ high ∷ [])) ∙ foldl-append step 0 (bits flips) (bits (low ∷ high ∷ [])) ∙ ap (λ (r : ℕ). foldl step r (bits (low ∷ high ∷ []))) (e ∙ s0) ∙ two low high ∙ zero in
-        omega (arith, late 8 i whole (omega arith) (bits-in 8 (flips ++ low ∷ high ∷ [])) all divided)
+        omega (arith, late 8 i both (omega arith) (bits-in 8 (flips ++ low ∷ high ∷ [])) all divided)
     go false true f g =
         let none : behind 0 (bits flips) ≡ 0 = ap (behind 0) (blank-bits (bits flips) (eqb-true _ 0 g)) ∙ shifted (length (bits flips)) 0 ∙ omega arith in
         eqb-false (256 * high + low) 0 f (sym e ∙ itself flips 0 none (omega arith))

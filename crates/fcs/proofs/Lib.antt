@@ -9,7 +9,9 @@ pub mod Pairwise
 pub mod Rows
 pub mod Bursting
 pub mod Border
+pub mod Upward
 pub mod Serial
 pub mod Parity
 pub mod Powers
 pub mod Pairs
+pub mod SerialBorder

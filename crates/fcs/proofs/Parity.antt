@@ -46,15 +46,15 @@ kept : (r : ℕ) → r < 2 ^ 16 → sum 16 (leave 1 r) ≡ sum 16 r
 unfolding sum leave every bit step _⊕_
 kept = agree (after (sum-additive 16) (leave-additive 1)) (sum-additive 16) 16 refl
 
-single : (w : ℕ) → w < 2 → sum 16 (step 0 w) ≡ w
+one-bit : (w : ℕ) → w < 2 → sum 16 (step 0 w) ≡ w
 unfolding sum bit step _⊕_
-single = bit-ind (λ (w : ℕ). sum 16 (step 0 w) ≡ w) refl refl
+one-bit = bit-ind (λ (w : ℕ). sum 16 (step 0 w) ≡ w) refl refl
 
 sum-step : (r w : ℕ) → r < 2 ^ 16 → w < 2 → sum 16 (step r w) ≡ sum 16 r ⊕ w
 sum-step r w hr hw =
     ap (sum 16) (ap (λ (n : ℕ). step n w) (sym (⊕-zero r)) ∙ apart (w ∷ []) r 0)
     ∙ sum-additive 16 .adds (leave 1 r) (step 0 w)
-    ∙ ap₂ (λ (x y : ℕ). x ⊕ y) (kept r hr) (single w hw)
+    ∙ ap₂ (λ (x y : ℕ). x ⊕ y) (kept r hr) (one-bit w hw)
 
 sum-fold : (ws : List ℕ) (r : ℕ) → AreBits ws → r < 2 ^ 16 → sum 16 (foldl step r ws) ≡ sum 16 r ⊕ ones ws % 2
 unfolding ones

@@ -11,7 +11,7 @@ use borrow.Author.Tests.{eqb-false, ltb-true, ltb-false}
 use Rattle.numbers.specs.Bits.{_⊕_, bit}
 use Rattle.numbers.proofs.Xor.{⊕-zero, ⊕-assoc}
 use Rattle.fcs.specs.Fcs.{generator, step}
-use Rattle.fcs.specs.Claims.{Order}
+use Rattle.fcs.specs.Claims.{OrderOfX}
 use Rattle.fcs.proofs.Division.{step-small}
 use Rattle.fcs.proofs.Zeros.{leave, leave-lt, leave-same, leave-plus}
 
@@ -88,7 +88,7 @@ unfolding leave step bit _⊕_
 not-one zero some l e = omega arith
 not-one (suc k) some l e = open-before 32766 k 2 (omega arith) around (omega arith) e
 
-pub order : Order
+pub order : OrderOfX
 unfolding leave step bit _⊕_
 order = (closes 32766 2 (omega arith) around, not-one)
 

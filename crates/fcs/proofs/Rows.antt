@@ -1,11 +1,10 @@
 -- All the ones of a list among n bits in a row: the number that the list makes.
 -- Assumes nothing.
 use mathlib.Core.Path.{_≡_, refl, sym, ap, _∙_, subst}
-use Prim.Native.Nat.{ℕ, zero, suc, _+_, _-_, _*_, _%_, _^_, _≤_, _<_}
+use Prim.Native.Nat.{ℕ, zero, suc, _+_, _-_, _*_, _^_, _≤_, _<_}
 use mathlib.Core.List.{List, [], _∷_, _++_}
 use native.Mathlib.Omega.{arith}
-use native.Mathlib.Nat.{mul-assoc, pow-succ'}
-use lib.Arith.{digits-mod}
+use native.Mathlib.Nat.{mul-assoc}
 use lib.Pow.{pow-pos, pow-mono, pow-add}
 use lib.ListN.{length, take, drop}
 use Rattle.numbers.specs.Bits.{AreBits}
@@ -67,31 +66,6 @@ row n (suc i) [] hs s = record { part = 0; places = 0; small = pow-pos n; is = r
 row n (suc i) (zero ∷ ws) hs s = row n i ws (hs .1) (omega arith)
 row n (suc i) (suc w ∷ ws) hs s = absurd (omega (arith, ones-part n i ws))
 
--- the number that bits make, the lowest bit first
-abbrev pub upward : List ℕ → ℕ
-upward [] = 0
-upward (w ∷ ws) = w + upward ws * 2
-
-pub ones-upward : (ws : List ℕ) → ones ws ≤ upward ws
-unfolding ones
-ones-upward [] = omega arith
-ones-upward (w ∷ ws) = omega (arith, ones-upward ws)
-
-upward-front : (n : ℕ) (ws : List ℕ) → AreBits ws → ones (take n ws) ≡ ones ws → upward ws < 2 ^ n
-unfolding ones
-upward-front n [] hs s = pow-pos n
-upward-front zero (w ∷ ws) hs s = omega (arith, upward-front 0 ws (hs .1) (omega arith))
-upward-front (suc n) (w ∷ ws) hs s = omega (arith, hs .0, upward-front n ws (hs .1) (omega arith))
-
-pub upward-row : (n i : ℕ) (ws : List ℕ) → AreBits ws → ones (take n (drop i ws)) ≡ ones ws → Shifted n (upward ws)
-unfolding ones
-upward-row n zero ws hs s = record { part = upward ws; places = 0; small = upward-front n ws hs s; is = omega arith }
-upward-row n (suc i) [] hs s = record { part = 0; places = 0; small = pow-pos n; is = refl }
-upward-row n (suc i) (zero ∷ ws) hs s =
-    let r = upward-row n i ws (hs .1) (omega arith) in
-    record { part = r .part; places = suc (r .places); small = r .small; is = rw (pow-succ' 2 (r .places)) (omega (arith, r .is)) }
-upward-row n (suc i) (suc w ∷ ws) hs s = absurd (omega (arith, ones-part n i ws))
-
 -- of k zero bits behind a number j are behind the rest
 pub whole : (u k j : ℕ) → j ≤ k → u * 2 ^ k ≡ u * 2 ^ (k - j) * 2 ^ j
 whole u k j h =
@@ -99,4 +73,4 @@ whole u k j h =
     ap (λ (n : ℕ). u * 2 ^ n) there ∙ ap (λ (n : ℕ). u * n) (pow-add 2 (k - j) j) ∙ sym (mul-assoc u (2 ^ (k - j)) (2 ^ j))
 
 pub no-rest : (m q r : ℕ) → r < 256 → m * 256 + r ≡ q * 256 → r ≡ 0
-no-rest m q r h e = sym (digits-mod m h) ∙ ap (λ (n : ℕ). n % 256) e ∙ omega arith
+no-rest m q r h e = omega arith

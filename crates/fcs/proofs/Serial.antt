@@ -2,54 +2,29 @@
 -- Assumes nothing.
 use mathlib.Core.Path.{_≡_, refl, sym, ap, ap₂, _∙_}
 use mathlib.Core.Bool.{Bool, true, false, cond}
-use Prim.Native.Nat.{ℕ, zero, suc, _+_, _-_, _*_, _/_, _%_, _^_, _≤_, _<_}
-use mathlib.Core.List.{List, [], _∷_, _++_, foldl}
+use Prim.Native.Nat.{ℕ, zero, suc, _+_, _-_, _*_, _%_, _^_, _≤_, _<_}
+use mathlib.Core.List.{List, [], _∷_, foldl}
 use native.Mathlib.Omega.{arith}
-use native.Mathlib.Nat.{pow-succ', mul-add-mod-self-right, zero-mod}
-use native.Mathlib.Numerals.{add-one}
+use native.Mathlib.Nat.{mul-add-mod-self-right, zero-mod}
 use lib.Bits.{xor-shifted}
 use lib.Dec.{eqb, ltb, leb}
 use lib.ListN.{length, replicate}
-use lib.Pow.{mod-pow-add, pow-add, pow-mono, shl-lt}
+use lib.Pow.{pow-add, pow-mono, shl-lt}
 use borrow.Author.Tests.{eqb-true, eqb-false, ltb-true, ltb-false, leb-true}
-use Rattle.numbers.specs.Bits.{_⊕_, bit, AreBits}
+use Rattle.numbers.specs.Bits.{_⊕_, bit}
 use Rattle.numbers.specs.Packing.{bitsOf, bitsIn}
 use Rattle.numbers.proofs.Every.{every, at}
-use Rattle.numbers.proofs.Packing.{both-bits}
 use Rattle.numbers.proofs.Xor.{⊕-zero, ⊕-same}
 use Rattle.fcs.specs.Fcs.{step, bits, fcs}
-use Rattle.fcs.specs.Flips.{lowBitFirst, serialBits}
+use Rattle.fcs.specs.Flips.{serialBits}
 use Rattle.fcs.specs.Claims.{SerialBursts}
 use Rattle.fcs.proofs.Division.{own}
 use Rattle.fcs.proofs.Zeros.{leave, leave-additive, divided, zero-bits, leave-zero, shifted}
-use Rattle.fcs.proofs.Rows.{upward, ones-upward, upward-row, whole, no-rest}
+use Rattle.fcs.proofs.Rows.{whole}
 use Rattle.fcs.proofs.Quotient.{remainder}
 use Rattle.fcs.proofs.Shortest.{one, two}
 use Rattle.fcs.proofs.Sums.{low}
-
-upward-low : (k n : ℕ) (ws : List ℕ) → upward (lowBitFirst k n ++ ws) ≡ n % 2 ^ k + upward ws * 2 ^ k
-unfolding lowBitFirst
-upward-low zero n ws = omega arith
-upward-low (suc k) n ws =
-    rw (ap (λ (j : ℕ). n % 2 ^ j) (sym (add-one k)) ∙ mod-pow-add n k 1, pow-succ' 2 k) (omega (arith, upward-low k (n / 2) ws))
-
-low-bits : (k n : ℕ) → AreBits (lowBitFirst k n)
-unfolding lowBitFirst
-low-bits zero n = tt
-low-bits (suc k) n = (omega arith, low-bits k (n / 2))
-
-serial-bits : (m : List ℕ) → AreBits (serialBits m)
-unfolding serialBits
-serial-bits [] = tt
-serial-bits (b ∷ bs) = both-bits (lowBitFirst 8 b) (serialBits bs) (low-bits 8 b) (serial-bits bs)
-
--- a message as a number, its first byte lowest
-upwardOf : List ℕ → ℕ
-upwardOf m = upward (serialBits m)
-
-byte-first : (b : ℕ) (bs : List ℕ) → upwardOf (b ∷ bs) ≡ b % 256 + upwardOf bs * 256
-unfolding upwardOf serialBits
-byte-first b bs = upward-low 8 b (serialBits bs)
+use Rattle.fcs.proofs.Upward.{upwardOf, byte-first, serial-row, pass-over}
 
 -- a first byte of 0 changes nothing
 zero-first : (b : ℕ) (bs : List ℕ) → b % 256 ≡ 0 → fcs (b ∷ bs) ≡ fcs bs
@@ -131,7 +106,10 @@ module _ (b c d k u : ℕ) (hb : b < 256) (hc : c < 256) (hd : d < 256) (hk : k 
       let c0 : c * 256 ≡ d = ap (λ (n : ℕ). n ⊕ c * 256) (sym back0) ∙ s in
       omega arith
 
--- the rest behind three bytes is zero
+three-first : (b c d : ℕ) (es : List ℕ) → upwardOf (b ∷ c ∷ d ∷ es) ≡ b % 256 + c % 256 * 256 + d % 256 * 65536 + upwardOf es * 16777216
+three-first b c d es = omega (arith, byte-first b (c ∷ d ∷ es), byte-first c (d ∷ es), byte-first d es)
+
+-- within 16 bits from the first byte on, so none behind the third
 early : (b : ℕ) (bs : List ℕ) (u k : ℕ) → k < 8 → u < 2 ^ 16 → upwardOf (b ∷ bs) ≡ u * 2 ^ k → fcs (b ∷ bs) ≡ 0 → upwardOf (b ∷ bs) ≡ 0
 unfolding upwardOf serialBits
 early b [] u k hk hu s e = omega (arith, byte-first b [], sym (one b) ∙ e)
@@ -139,15 +117,10 @@ early b (c ∷ []) u k hk hu s e = omega (arith, byte-first b (c ∷ []), byte-f
 early b (c ∷ d ∷ es) u k hk hu s e =
     let r = fcs (b ∷ c ∷ d ∷ []) in
     let most : 16 + k ≤ 24 = omega arith in
-    let z : upwardOf es ≡ 0 = omega (arith, byte-first b (c ∷ d ∷ es), byte-first c (d ∷ es), byte-first d es, shl-lt 16 k hu, pow-mono most) in
+    let v = three-first b c d es in
+    let z : upwardOf es ≡ 0 = omega (arith, shl-lt 16 k hu, pow-mono most) in
     let r0 : r ≡ 0 = leave-zero (length es * 8) r (remainder (b ∷ c ∷ d ∷ []) .0) (sym (⊕-zero _) ∙ ap (λ (n : ℕ). leave (length es * 8) r ⊕ n) (sym (no-bytes es z)) ∙ sym (divided es r) ∙ behind-three b c d es ∙ e) in
-    omega (
-      arith,
-      byte-first b (c ∷ d ∷ es),
-      byte-first c (d ∷ es),
-      byte-first d es,
-      none (b % 256) (c % 256) (d % 256) k u (omega arith) (omega arith) (omega arith) hk hu (omega (arith, byte-first b (c ∷ d ∷ es), byte-first c (d ∷ es), byte-first d es)) (sym (three b c d) ∙ r0),
-    )
+    omega (arith, none (b % 256) (c % 256) (d % 256) k u (omega arith) (omega arith) (omega arith) hk hu (omega arith) (sym (three b c d) ∙ r0))
 
 -- a first byte of no flips is passed over
 by-first : (b : ℕ) (bs : List ℕ) (u k : ℕ) → u < 2 ^ 16 → upwardOf (b ∷ bs) ≡ u * 2 ^ k → fcs (b ∷ bs) ≡ 0
@@ -157,10 +130,8 @@ by-first b bs u k h s e rest = go (ltb k 8) refl
     go : (t : Bool) → ltb k 8 ≡ t → upwardOf (b ∷ bs) ≡ 0
     go true f = early b bs u k (ltb-true k 8 f) h s e
     go false f =
-        let q = u * 2 ^ (k - 8) in
-        let z : upwardOf bs * 256 + b % 256 ≡ q * 256 = omega (arith, byte-first b bs) ∙ s ∙ whole u k 8 (ltb-false k 8 f) in
-        let b0 : b % 256 ≡ 0 = no-rest (upwardOf bs) q (b % 256) (omega arith) z in
-        omega (arith, byte-first b bs, rest (k - 8) (omega arith) (sym (zero-first b bs b0) ∙ e))
+        let p = pass-over b bs u k (ltb-false k 8 f) s in
+        omega (arith, byte-first b bs, p .0, rest (k - 8) (p .1) (sym (zero-first b bs (p .0)) ∙ e))
 
 quiet : (m : List ℕ) (u k : ℕ) → u < 2 ^ 16 → upwardOf m ≡ u * 2 ^ k → fcs m ≡ 0 → upwardOf m ≡ 0
 unfolding upwardOf serialBits
@@ -168,7 +139,6 @@ quiet [] u k h s e = refl
 quiet (b ∷ bs) u k h s e = by-first b bs u k h s e (λ j. quiet bs u j h)
 
 pub serial-bursts : SerialBursts
-unfolding upwardOf
 serial-bursts flips i all some e =
-    let r = upward-row 16 i (serialBits flips) (serial-bits flips) all in
-    omega (arith, ones-upward (serialBits flips), quiet flips (r .part) (r .places) (r .small) (r .is) e)
+    let r = serial-row flips i all in
+    omega (arith, r .0, quiet flips (r .1 .part) (r .1 .places) (r .1 .small) (r .1 .is) e)

@@ -32,4 +32,4 @@ starred-hold = refl and refl and refl and refl and refl and refl and refl and re
 
 pub examples-hold : Examples
 unfolding Holds _⊕_ bit signedIn bitsOf bitsIn step fcs escape stuff lowFirst enclosed frameOf misfit reading heartbeatIn trackFrom positionOf altitudeOf speedOf climbOf reportIn goodPosition goodReport kindIn readMessage framesBefore walk payloadFrames dataIn contentOf contents bytesOf rows textual gather numbersIn characterOf placeIn codeOf textOfCodes decode headerOf codeBytes encode textsIn
-examples-hold = refl and refl and refl and refl and refl and refl and refl and refl and done
+examples-hold = refl and refl and refl and refl and refl and refl and refl and refl and refl and done

@@ -64,8 +64,9 @@ examples =
     -- 001 §2.2.4: the heartbeat's frame
     ∷ frame (0x00 ∷ 0x81 ∷ 0x41 ∷ 0xDB ∷ 0xD0 ∷ 0x08 ∷ 0x02 ∷ []) (0x7E ∷ 0x00 ∷ 0x81 ∷ 0x41 ∷ 0xDB ∷ 0xD0 ∷ 0x08 ∷ 0x02 ∷ 0xB3 ∷ 0x8B ∷ 0x7E ∷ [])
     ∷ shortest (0x00 ∷ 0x81 ∷ 0x41 ∷ 0xDB ∷ 0xD0 ∷ 0x08 ∷ 0x02 ∷ [])
-    -- RULES 'What the check sequence finds': four flips within 17 bits
+    -- RULES 'What the check sequence finds': four flips within 17 bits, and six within 17 as a serial line sends them
     ∷ sequence (0x01 ∷ 0x10 ∷ 0x21 ∷ []) 0
+    ∷ sequence (0x23 ∷ 0x14 ∷ 0x01 ∷ []) 0
     -- 001 §3.1.4: counts 4 and 567
     ∷ read (0x00 ∷ 0x81 ∷ 0x41 ∷ 0xDB ∷ 0xD0 ∷ 0x22 ∷ 0x37 ∷ []) (heartbeatWith 53467 4 567)
     -- 001 §5.2.4: five reports, of KSLE, KPDX, KEUG, KAST and KHIO

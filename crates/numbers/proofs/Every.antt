@@ -1,4 +1,4 @@
--- What tests show: two at once, one that chooses, and one that antt computes at each number below n.
+-- What tests show: two at once, two that agree, one that chooses, and one that antt computes at each number below n.
 -- Assumes nothing.
 use mathlib.Core.Path.{_≡_, refl, sym}
 use mathlib.Core.Bool.{Bool, true, false, cond, _&&_}

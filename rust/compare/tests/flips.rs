@@ -20,12 +20,12 @@ type Flips = Vec<u8>;
 type Order = fn(usize) -> u8;
 
 /// As the bits of a message are divided (RULES 'Check sequence').
-fn high_first(bit: usize) -> u8 {
+fn high_bit_first(bit: usize) -> u8 {
     0x80 >> (bit % 8)
 }
 
 /// As a serial line sends.
-fn low_first(bit: usize) -> u8 {
+fn low_bit_first(bit: usize) -> u8 {
     1 << (bit % 8)
 }
 
@@ -91,9 +91,9 @@ impl Line {
             return self.feed(flips);
         }
         for bit in from..8 * flips.len() {
-            flips[bit / 8] ^= low_first(bit);
+            flips[bit / 8] ^= low_bit_first(bit);
             self.feed_more(flips, bit + 1, count - 1);
-            flips[bit / 8] ^= low_first(bit);
+            flips[bit / 8] ^= low_bit_first(bit);
         }
     }
 
@@ -118,8 +118,8 @@ impl Line {
 fn pairs_over_the_border(length: usize) -> BTreeSet<Flips> {
     let pair = |j| {
         let mut flips = vec![0; length + 2];
-        flips[length - 1 - j / 8] = low_first(j);
-        flips[length + j / 8] = low_first(j);
+        flips[length - 1 - j / 8] = low_bit_first(j);
+        flips[length + j / 8] = low_bit_first(j);
         flips
     };
     (0..16.min(8 * length)).map(pair).collect()
@@ -147,7 +147,7 @@ fn long_message() -> Vec<u8> {
     Xorshift::new(0x0F11_9500).message(MESSAGE_MAX)
 }
 
-/// Two flips in a message are always found, however long it is.
+/// Two flips in the longest message are always found, however far apart.
 #[test]
 fn pairs_of_a_long_message() {
     let mut line = Line::new(&long_message());
@@ -166,9 +166,9 @@ fn all_flips_of_one_byte() {
         line.feed(&flips.to_be_bytes()[1..]);
     }
     assert_eq!(line.fed, 1 << 24);
-    let in_message = line.passed.iter().map(|flips| flips[0]);
-    assert!(in_message.eq(0..=255), "one for each flips of the message");
-    assert!(!line.passed.iter().any(|flips| ones(flips) % 2 == 1));
+    let own_sequence = (0..=255).map(|byte| vec![byte, byte, 0]);
+    assert_eq!(line.passed, own_sequence.collect());
+    assert_eq!(line.passed.len(), 1 << 8);
     line.passed.retain(|flips| ones(flips) == 2);
     assert_eq!(line.passed, pairs_over_the_border(1));
     assert_eq!(line.passed.len(), 8);
@@ -209,18 +209,23 @@ fn up_to_three_flips_of_short_messages() {
     }
 }
 
-/// Value 5 of RULES 'Values', and four flips within 17 bits of the message.
+/// Value 5 of RULES 'Values', and one bit more in a row than is always found.
 #[test]
 fn flips_that_are_not_found() {
     let pair = b"\x7E\x00\x81\x41\xDB\xD0\x08\x03\xB2\x8B\x7E";
     let four = b"\x7E\x00\x81\x41\xDB\xD1\x18\x23\xB3\x8B\x7E";
-    for frame in [pair, four] {
+    let six = b"\x7E\x00\x81\x41\xDB\xF3\x1C\x03\xB3\x8B\x7E";
+    for frame in [pair, four, six] {
         let mut collector = Collector::new();
         assert_eq!(collector.feed(frame).answer, Some(Ok(&frame[1..8])));
     }
+    assert_eq!(span(&[0x01, 0x10, 0x21], high_bit_first), 17);
+    assert_eq!(span(&[0x23, 0x14, 0x01], low_bit_first), 17);
+    assert_eq!(span(&[0x23, 0x14, 0x01], high_bit_first), 22);
 }
 
-/// All that reach over the border, and all flips of the sequence alone.
+/// All that reach over the border, and beside them those of the sequence alone
+/// and of the message's last 15 bits.
 fn assert_bursts_at_the_border(message: &[u8], order: Order) {
     let mut line = Line::new(message);
     let border = 8 * message.len();
@@ -236,8 +241,8 @@ fn assert_bursts_at_the_border(message: &[u8], order: Order) {
 fn bursts_at_the_border() {
     let messages = [&[0x42][..], &[0x7E, 0x5D], &HEARTBEAT, &long_message()];
     for message in messages {
-        assert_bursts_at_the_border(message, high_first);
-        assert_bursts_at_the_border(message, low_first);
+        assert_bursts_at_the_border(message, high_bit_first);
+        assert_bursts_at_the_border(message, low_bit_first);
     }
 }
 
@@ -246,8 +251,8 @@ fn bursts_at_the_border() {
 fn bursts_in_a_message_are_found() {
     let (heartbeat, long) = (Line::new(&HEARTBEAT), Line::new(&long_message()));
     for (mut line, bits, bursts) in [(heartbeat, 56, 1_376_255), (long, 24, 327_679)] {
-        line.feed_bursts(0..bits, high_first);
-        line.feed_bursts(0..bits, low_first);
+        line.feed_bursts(0..bits, high_bit_first);
+        line.feed_bursts(0..bits, low_bit_first);
         assert_eq!(line.fed, 2 * bursts);
         assert_eq!(line.passed, BTreeSet::new());
     }

@@ -68,6 +68,7 @@ mod tests {
         assert_eq!(check_sequence(&heartbeat), 0x8BB3);
         assert_eq!(check_sequence(&[0x01, 0x00, 0x00]), 0x1021);
         assert_eq!(check_sequence(&[0x01, 0x10, 0x21]), 0);
+        assert_eq!(check_sequence(&[0x23, 0x14, 0x01]), 0);
     }
 
     /// The first 16 are the words of RULES 'Check sequence'.
