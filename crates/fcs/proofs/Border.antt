@@ -16,7 +16,7 @@ use Rattle.fcs.specs.Flips.{ones}
 use Rattle.fcs.specs.Claims.{OverTheBorder}
 use Rattle.fcs.proofs.Division.{behind, grows}
 use Rattle.fcs.proofs.Bursting.{late}
-use Rattle.fcs.proofs.Rows.{Shifted, row, whole, no-rest}
+use Rattle.fcs.proofs.Rows.{Shifted, row, split-zeros, no-rest}
 use Rattle.fcs.proofs.Shortest.{number-two, itself, two}
 use Rattle.fcs.proofs.Zeros.{blank-bits, shifted}
 
@@ -46,7 +46,7 @@ module _ (v low high n : ℕ) (hl : low < 256) (hh : high < 256) (hn : n ≤ 16)
     where
       go : (t : Bool) → ltb (s .places) 16 ≡ t → s .places < 16
       go true e = ltb-true (s .places) 16 e
-      go false e = absurd (omega (arith, s .is ∙ whole (s .part) (s .places) 16 (ltb-false (s .places) 16 e)))
+      go false e = absurd (omega (arith, s .is ∙ split-zeros (s .part) (s .places) 16 (ltb-false (s .places) 16 e)))
 
   below : (k : ℕ) → n + s .places ≤ k → v * 65536 < 2 ^ k
   below k h = omega (arith, s .is, shl-lt n (s .places) (s .small), pow-mono h)
@@ -58,7 +58,7 @@ module _ (v low high n : ℕ) (hl : low < 256) (hh : high < 256) (hn : n ≤ 16)
       go true f = omega (arith, below 23 (omega (arith, ltb-true (s .places) 8 f)))
       go false f =
           let m = v * 256 + low in
-          let z : m * 256 + high ≡ s .part * 2 ^ (s .places - 8) * 256 = omega (arith, s .is ∙ whole (s .part) (s .places) 8 (ltb-false (s .places) 8 f)) in
+          let z : m * 256 + high ≡ s .part * 2 ^ (s .places - 8) * 256 = omega (arith, s .is ∙ split-zeros (s .part) (s .places) 8 (ltb-false (s .places) 8 f)) in
           no-rest m (s .part * 2 ^ (s .places - 8)) high hh z
 
   wide : v ≡ 256 * high + low → 9 ≤ n

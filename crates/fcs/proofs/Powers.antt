@@ -61,6 +61,7 @@ around : orbit 32766 2 ≡ 1
 unfolding orbit next takenOff flipAt
 around = refl
 
+-- an orbit that ends at 1 does not begin there, and goes on from the next remainder
 further : (n r : ℕ) → orbit (suc n) r ≡ 1 → (r ≡ 1 → ⊥) × (orbit n (next r) ≡ 1)
 unfolding orbit
 further n r e = go (eqb r 1) refl
@@ -72,11 +73,13 @@ further n r e = go (eqb r 1) refl
 moved : (n r : ℕ) → r < 2 ^ 16 → orbit (suc n) r ≡ 1 → orbit n (step r 0) ≡ 1
 moved n r h o = ap (orbit n) (next-step r h) ∙ further n r o .1
 
+-- so it is 1 with n zero bits more,
 closes : (n r : ℕ) → r < 2 ^ 16 → orbit n r ≡ 1 → leave n r ≡ 1
 unfolding orbit leave
 closes zero r h o = o
 closes (suc n) r h o = closes n (step r 0) (leave-lt 1 r h) (moved n r h o)
 
+-- and not with fewer
 open-before : (n k r : ℕ) → r < 2 ^ 16 → orbit n r ≡ 1 → k < n → leave k r ≡ 1 → ⊥
 unfolding leave
 open-before zero k r h o l e = omega arith

@@ -66,9 +66,9 @@ row n (suc i) [] hs s = record { part = 0; places = 0; small = pow-pos n; is = r
 row n (suc i) (zero ∷ ws) hs s = row n i ws (hs .1) (omega arith)
 row n (suc i) (suc w ∷ ws) hs s = absurd (omega (arith, ones-part n i ws))
 
--- of k zero bits behind a number j are behind the rest
-pub whole : (u k j : ℕ) → j ≤ k → u * 2 ^ k ≡ u * 2 ^ (k - j) * 2 ^ j
-whole u k j h =
+-- k zero bits behind a number, the last j of them apart
+pub split-zeros : (u k j : ℕ) → j ≤ k → u * 2 ^ k ≡ u * 2 ^ (k - j) * 2 ^ j
+split-zeros u k j h =
     let there : k ≡ k - j + j = omega arith in
     ap (λ (n : ℕ). u * 2 ^ n) there ∙ ap (λ (n : ℕ). u * n) (pow-add 2 (k - j) j) ∙ sym (mul-assoc u (2 ^ (k - j)) (2 ^ j))
 

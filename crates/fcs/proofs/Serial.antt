@@ -20,7 +20,7 @@ use Rattle.fcs.specs.Flips.{serialBits}
 use Rattle.fcs.specs.Claims.{SerialBursts}
 use Rattle.fcs.proofs.Division.{own}
 use Rattle.fcs.proofs.Zeros.{leave, leave-additive, divided, zero-bits, leave-zero, shifted}
-use Rattle.fcs.proofs.Rows.{whole}
+use Rattle.fcs.proofs.Rows.{split-zeros}
 use Rattle.fcs.proofs.Quotient.{remainder}
 use Rattle.fcs.proofs.Shortest.{one, two}
 use Rattle.fcs.proofs.Sums.{low}
@@ -78,7 +78,7 @@ module _ (b c d k u : ℕ) (hb : b < 256) (hc : c < 256) (hd : d < 256) (hk : k 
   first : b % 2 ^ k ≡ 0
   first =
       let q = c + d * 256 in
-      let n : q * 2 ^ (8 - k) * 2 ^ k + b ≡ u * 2 ^ k + 0 = ap (λ (m : ℕ). m + b) (sym (whole q 8 k (omega arith))) ∙ omega (arith, z) in
+      let n : q * 2 ^ (8 - k) * 2 ^ k + b ≡ u * 2 ^ k + 0 = ap (λ (m : ℕ). m + b) (sym (split-zeros q 8 k (omega arith))) ∙ omega (arith, z) in
       sym (mul-add-mod-self-right (q * 2 ^ (8 - k)) (2 ^ k) b) ∙ ap (λ (m : ℕ). m % 2 ^ k) n ∙ mul-add-mod-self-right u (2 ^ k) 0 ∙ zero-mod (2 ^ k)
 
   third : d < 2 ^ k

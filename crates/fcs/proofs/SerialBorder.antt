@@ -17,7 +17,7 @@ use Rattle.fcs.specs.Fcs.{bits}
 use Rattle.fcs.specs.Flips.{serialBits}
 use Rattle.fcs.specs.Claims.{SerialBorder}
 use Rattle.fcs.proofs.Division.{behind}
-use Rattle.fcs.proofs.Rows.{whole}
+use Rattle.fcs.proofs.Rows.{split-zeros}
 use Rattle.fcs.proofs.Shortest.{number-of, itself}
 use Rattle.fcs.proofs.Upward.{upwardOf, byte-first, serial-row, pass-over}
 
@@ -56,7 +56,7 @@ above [] s = omega arith
 above (b ∷ bs) s =
     let more : length (b ∷ bs) * 8 - 8 ≡ length bs * 8 = omega arith in
     let byte : upwardOf s * 2 ^ (length (b ∷ bs) * 8) ≡ upwardOf s * 2 ^ (length bs * 8) * 256
-    = whole (upwardOf s) (length (b ∷ bs) * 8) 8 (omega arith) ∙ ap (λ (k : ℕ). upwardOf s * 2 ^ k * 256) more in
+    = split-zeros (upwardOf s) (length (b ∷ bs) * 8) 8 (omega arith) ∙ ap (λ (k : ℕ). upwardOf s * 2 ^ k * 256) more in
     omega (arith, byte-first b (bs ++ s), above bs s)
 
 -- so 16 bits in a row that reach bit t behind them begin less than 16 before it

@@ -11,7 +11,7 @@ use lib.Pow.{pow-pos, mod-pow-add}
 use Rattle.numbers.specs.Bits.{AreBits}
 use Rattle.numbers.proofs.Packing.{both-bits}
 use Rattle.fcs.specs.Flips.{ones, lowBitFirst, serialBits}
-use Rattle.fcs.proofs.Rows.{Shifted, ones-part, whole, no-rest}
+use Rattle.fcs.proofs.Rows.{Shifted, ones-part, split-zeros, no-rest}
 
 abbrev upward : List ℕ → ℕ
 upward [] = 0
@@ -69,6 +69,6 @@ serial-row m i all = (ones-upward (serialBits m), upward-row 16 i (serialBits m)
 pub pass-over : (b : ℕ) (bs : List ℕ) (u k : ℕ) → 8 ≤ k → upwardOf (b ∷ bs) ≡ u * 2 ^ k → (b % 256 ≡ 0) × (upwardOf bs ≡ u * 2 ^ (k - 8))
 pass-over b bs u k h s =
     let q = u * 2 ^ (k - 8) in
-    let z : upwardOf bs * 256 + b % 256 ≡ q * 256 = omega (arith, byte-first b bs) ∙ s ∙ whole u k 8 h in
+    let z : upwardOf bs * 256 + b % 256 ≡ q * 256 = omega (arith, byte-first b bs) ∙ s ∙ split-zeros u k 8 h in
     let b0 : b % 256 ≡ 0 = no-rest (upwardOf bs) q (b % 256) (omega arith) z in
     (b0, omega arith)
