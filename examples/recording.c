@@ -149,25 +149,54 @@ static uint8_t print_kind(const uint8_t *message, size_t length)
     }
 }
 
+/* A frame that is refused broke at a byte, counted from 1 behind its opening flag; a message that is refused has no such byte. */
+static void print_answer(struct gdl90_feed_answer fed, const uint8_t *message)
+{
+    uint8_t number = fed.number;
+
+    if (number == GDL90_ACCEPTED)
+        number = print_kind(message, fed.length);
+    if (number == GDL90_ACCEPTED)
+        return;
+    printf("refused with %u", number);
+    if (fed.position > 0)
+        printf(" at byte %zu", fed.position);
+    printf(": %s\n", gdl90_number_words(number));
+}
+
+/* One line for all frames: how many were accepted, and with which numbers how many were refused. */
+static void print_tally(struct gdl90_tally tally)
+{
+    const char *refused = "refused with";
+
+    printf("frames: %lu accepted", (unsigned long)tally.counts[GDL90_ACCEPTED]);
+    for (unsigned number = GDL90_BAD_ESCAPE; number <= GDL90_CHECK_SEQUENCE; number++) {
+        if (tally.counts[number] == 0)
+            continue;
+        printf(", %s %u: %lu", refused, number, (unsigned long)tally.counts[number]);
+        refused = "with";
+    }
+    printf("\n");
+}
+
 static void print_frames(FILE *recording)
 {
     static uint8_t room[GDL90_ROOM] = GDL90_FRESH, message[GDL90_LONGEST_MESSAGE], bytes[4096];
     struct gdl90_feed_control control = GDL90_FRESH;
+    struct gdl90_tally tally = {{0}};
     size_t got;
 
     while ((got = fread(bytes, 1, sizeof bytes, recording)) > 0) {
         for (size_t at = 0; at < got;) {
-            struct gdl90_feed_answer fed = gdl90_feed(control, room, message, bytes + at, got - at);
-            uint8_t number = fed.number;
+            struct gdl90_feed_answer fed = gdl90_feed_tallied(control, room, message, bytes + at, got - at, &tally);
 
             control = fed.control;
             at += fed.taken;
-            if (fed.answered && number == GDL90_ACCEPTED)
-                number = print_kind(message, fed.length);
-            if (number != GDL90_ACCEPTED)
-                printf("refused with %u: %s\n", number, gdl90_number_words(number));
+            if (fed.answered)
+                print_answer(fed, message);
         }
     }
+    print_tally(tally);
 }
 
 int main(int argc, char **argv)

@@ -2,14 +2,15 @@
    which is for x86-64 with the System V ABI, so for Linux: structs are handed over by value. For C99 or newer and C++.
 
    Every function takes every input, ends, keeps nothing, and touches nothing but the memory it is given, so any thread may call it.
-   A pointer and a length stand for bytes; where the length is 0 the pointer may be NULL. `room` and `message` of gdl90_feed are never
-   NULL. Memory to be written overlaps no other argument. A bool holds 0 or 1, as C stores it; of another byte, which only memcpy or
-   another language puts there, the lowest bit counts.
+   A pointer and a length stand for bytes; where the length is 0 the pointer may be NULL. Pointers without a length, `room`, `message`
+   and `tally`, are never NULL. Memory to be written overlaps no other argument. A bool holds 0 or 1, as C stores it; of another byte,
+   which only memcpy or another language puts there, the lowest bit counts.
 
    `number` in an answer is one of enum gdl90_number. Of several that apply, the one named first beside a function is given.
    With 0 only the bytes written change. With any other number every other field of the answer is 0, and memory lent for output is
-   as it was. The one exception is gdl90_feed, which goes on behind a refused frame: `control` and `taken` always hold the state and
-   the bytes taken, `answered` is true with a refusal too, and the room is part of the state. */
+   as it was. The one exception is collecting, which goes on behind a refused frame: `control` and `taken` always hold the state and
+   the bytes taken, `answered` is true with a refusal too, `position` says where the frame broke, the room is part of the state, and
+   the tally counts the refusal. */
 #ifndef GDL90_H
 #define GDL90_H
 
@@ -22,7 +23,7 @@ extern "C" {
 #endif
 
 /* The version of this header, of the crate for Rust and of gdl90-list. */
-#define GDL90_VERSION "0.2.0"
+#define GDL90_VERSION "0.3.0"
 
 /* What functions answer (RULES 'Numbers', in docs/RULES.md). 12 is not used, and will not be; later versions may have more. */
 enum gdl90_number {
@@ -96,32 +97,50 @@ struct gdl90_frame_answer gdl90_frame(const uint8_t *message, size_t message_len
 /* ---- collecting frames from a stream. Control and room are the state: keep both, unchanged, from one call to the next, also from
    one datagram to the next. Each sender has a state of its own; where one starts anew, set it to the fresh state. */
 
-/* All zero: the fresh state, as GDL90_FRESH initialises it. A control with another phase or count than those below is taken as the
-   fresh state. Fed no byte at all, one with a phase over 4 comes back with count 439 and phase 0, and any other with a count over 438
-   as it came: both are taken as the fresh state again. */
+/* All zero: the fresh state, as GDL90_FRESH initialises it. A control with a field outside its range below is taken as the fresh
+   state. Fed no byte at all, one with a phase over 4 comes back with count 439, stuffed 0 and phase 0, and any other as it came: both
+   are taken as the fresh state again. */
 struct gdl90_feed_control {
-    size_t count;  /* bytes in the room, 0 to 438 */
-    uint8_t phase; /* 0 to 4 */
+    size_t count;   /* bytes in the room, 0 to 438 */
+    size_t stuffed; /* bytes taken since the opening flag, as they came, 0 to 878; once 1 or 3 is met it stands still */
+    uint8_t phase;  /* 0 to 4 */
 };
 
 /* Initialises control and room:
      struct gdl90_feed_control control = GDL90_FRESH;
      uint8_t room[GDL90_ROOM] = GDL90_FRESH;
    To start anew, assign a control that is so initialised. The room may hold anything then, as the first flag clears it. */
-#define GDL90_FRESH {0, 0}
+#define GDL90_FRESH {0, 0, 0}
 
+/* With 1 to 5 the position says where the frame broke: how many bytes had been taken since the opening flag when the fault was met,
+   as they came, so that an escape and the byte behind it are two. For 1 and 3 the last of them is the one that is wrong; for 2, 4 and
+   5 they are all those before the closing flag. It is the same however the stream is cut into calls. From the fresh state on it is at
+   least 1; a control that is made up may lead to 0. */
 struct gdl90_feed_answer {
     struct gdl90_feed_control control; /* to be given to the next call */
     size_t taken;                      /* bytes taken: the next call goes on behind them */
-    bool answered;                     /* the last of them closed a frame; else number and length are 0 */
+    bool answered;                     /* the last of them closed a frame; else number, length and position are 0 */
     uint8_t number;                    /* of 1, 2 and 3 the one that the bytes meet first; 4, 5, 0 */
     size_t length;                     /* of the message, 1 to 436, where answered with 0 */
+    size_t position;                   /* 1 to 878, where answered with 1 to 5; else 0 */
 };
 
 /* Takes bytes until one closes a frame or there are no more: call it again with what is left. Where answered with 0 all of
    `message` is written, the message and zeros behind it; else it is as it was. */
 struct gdl90_feed_answer gdl90_feed(struct gdl90_feed_control control, uint8_t room[GDL90_ROOM],
                                     uint8_t message[GDL90_LONGEST_MESSAGE], const uint8_t *bytes, size_t bytes_len);
+
+/* How often each answer of collecting was given. Zero it to start: struct gdl90_tally tally = {{0}}; */
+struct gdl90_tally {
+    uint32_t counts[6]; /* by number, 0 to 5; each holds at 4,294,967,295, UINT32_MAX */
+};
+
+/* As gdl90_feed; and where answered, counts[number] goes up by one, or holds. No other count changes, and without an answer none
+   does. So each count is how many of its answers were given with this tally lent since it was zeroed, up to that hold, if nobody else
+   altered it since. Several states may be fed with one tally, one after the other. */
+struct gdl90_feed_answer gdl90_feed_tallied(struct gdl90_feed_control control, uint8_t room[GDL90_ROOM],
+                                            uint8_t message[GDL90_LONGEST_MESSAGE], const uint8_t *bytes, size_t bytes_len,
+                                            struct gdl90_tally *tally);
 
 /* ---- messages */
 

@@ -37,7 +37,7 @@ check() {
 }
 
 # listing_of FILE LINE...: the listing that has these lines behind its first.
-listing_of() { printf '%s\n' 'n at ans id len' "${@:2}" > "$1"; }
+listing_of() { printf '%s\n' 'n at ans id len pos' "${@:2}" > "$1"; }
 
 # await COMMAND...: waits until it succeeds, 10 seconds at most.
 await() {
@@ -65,7 +65,7 @@ listings() {
     check 'from another folder, through a link, a name with a space' 0 "$listing" ''
     cd /
     printf '\x55\x7E\x00\x81\x41\xDB\xD0\x08\x02\xB3\x8B\x7E\x7E\x00\x81\x41\xDB\xD0\x08\x02\xB3\x8A\x7E\x07\x7D' > "$tmp/example"
-    listing_of "$tmp/example.txt" '1 2 0 0 7' '2 13 5 - -' 'end 1 2'
+    listing_of "$tmp/example.txt" '1 2 0 0 7 -' '2 13 5 - - 9' 'end 1 2'
     run "$list" "$tmp/example"
     check 'the example of docs/RULES.md' 0 "$tmp/example.txt" ''
     for at in $(awk '$1 ~ /^[0-9]+$/ { print $2 }' "$listing"); do

@@ -22,6 +22,7 @@ static void print_frames(void)
 
     STRUCT(gdl90_feed_control);
     FIELD(gdl90_feed_control, count);
+    FIELD(gdl90_feed_control, stuffed);
     FIELD(gdl90_feed_control, phase);
 
     STRUCT(gdl90_feed_answer);
@@ -30,6 +31,10 @@ static void print_frames(void)
     FIELD(gdl90_feed_answer, answered);
     FIELD(gdl90_feed_answer, number);
     FIELD(gdl90_feed_answer, length);
+    FIELD(gdl90_feed_answer, position);
+
+    STRUCT(gdl90_tally);
+    FIELD(gdl90_tally, counts);
 }
 
 static void print_report(void)

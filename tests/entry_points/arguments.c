@@ -10,15 +10,19 @@ static void check_no_frames(void)
 {
     uint8_t room[GDL90_ROOM] = GDL90_FRESH, message[GDL90_LONGEST_MESSAGE] = {0}, frame[11];
     struct gdl90_feed_control control = GDL90_FRESH;
+    struct gdl90_tally tally = {{0}};
     struct gdl90_feed_answer fed = gdl90_feed(control, room, message, NULL, 0);
 
+    CHECK(gdl90_feed_tallied(control, room, message, NULL, 0, &tally).answered, false);
     CHECK(gdl90_check_sequence(NULL, 0), 0);
     CHECK(gdl90_frame(NULL, 0, frame, sizeof frame).number, GDL90_UNFRAMABLE);
     CHECK(gdl90_frame(HEARTBEAT, sizeof HEARTBEAT, NULL, 0).number, GDL90_NO_ROOM);
     CHECK(gdl90_frame(NULL, 0, NULL, 0).number, GDL90_UNFRAMABLE);
     CHECK(fed.taken, 0);
     CHECK(fed.answered, false);
+    CHECK(fed.position, 0);
     CHECK(fed.control.count, 0);
+    CHECK(fed.control.stuffed, 0);
     CHECK(fed.control.phase, 0);
 }
 
@@ -136,12 +140,14 @@ static void check_fresh(void)
     struct gdl90_feed_answer fed;
 
     CHECK(control.count, 0);
+    CHECK(control.stuffed, 0);
     CHECK(control.phase, 0);
     CHECK_BYTES(room, zeros, sizeof room);
     fed = gdl90_feed(control, room, message, broken, sizeof broken);
     control = fed.control;
     CHECK(fed.answered, false);
     CHECK(control.count, 3);
+    CHECK(control.stuffed, 3);
     control = fresh;
     fed = gdl90_feed(control, room, message, frame, sizeof frame);
     CHECK(fed.taken, sizeof frame);

@@ -12,6 +12,8 @@ extern unsigned long checks_passed, checks_failed;
 extern int case_line; /* of the case under test, 0 for none */
 
 void check_frames(void);
+void check_collecting(void);
+void check_tallies(void);
 void check_messages(void);
 void check_reports(void);
 void check_information_frames(void);

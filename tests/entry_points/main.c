@@ -17,6 +17,7 @@ typedef uint8_t u8;
 uint16_t gdl90_check_sequence(const u8 *, size_t);
 struct gdl90_frame_answer gdl90_frame(const u8 *, size_t, u8 *, size_t);
 struct gdl90_feed_answer gdl90_feed(struct gdl90_feed_control, u8[438], u8[436], const u8 *, size_t);
+struct gdl90_feed_answer gdl90_feed_tallied(struct gdl90_feed_control, u8[438], u8[436], const u8 *, size_t, struct gdl90_tally *);
 struct gdl90_kind_answer gdl90_kind(const u8 *, size_t);
 struct gdl90_heartbeat_read gdl90_read_heartbeat(const u8 *, size_t);
 struct gdl90_initialization_read gdl90_read_initialization(const u8 *, size_t);
@@ -176,11 +177,22 @@ static void check_constants(void)
 
 /* As many fields as the library has, each at the next place that its type allows. A header with one more does not compile: -Wextra
    misses its initializer. */
-static void check_sizes(void)
+static void check_frame_sizes(void)
 {
     const size_t word = sizeof(size_t);
     const struct gdl90_frame_answer frame = {0, 0};
-    const struct gdl90_feed_answer feed = {{0, 0}, 0, false, 0, 0};
+    const struct gdl90_feed_answer feed = {{0, 0, 0}, 0, false, 0, 0, 0};
+    const struct gdl90_tally tally = {{0, 0, 0, 0, 0, 0}};
+
+    CHECK(sizeof frame, 2 * word);
+    CHECK(sizeof feed, 7 * word);
+    CHECK(sizeof feed.control, 3 * word);
+    CHECK(sizeof tally, 24);
+}
+
+static void check_message_sizes(void)
+{
+    const size_t word = sizeof(size_t);
     const struct gdl90_kind_answer kind = {0, 0};
     const struct gdl90_heartbeat_read heartbeat = {0, {0, 0, 0, 0, 0, 0}};
     const struct gdl90_initialization_read initialization = {0, {0, 0}};
@@ -195,9 +207,6 @@ static void check_sizes(void)
     const struct gdl90_text_answer text = {0, 0, 0, 0, 0};
     const struct gdl90_degrees_answer degrees = {0, 0, 0};
 
-    CHECK(sizeof frame, 2 * word);
-    CHECK(sizeof feed, 5 * word);
-    CHECK(sizeof feed.control, 2 * word);
     CHECK(sizeof kind, 2);
     CHECK(sizeof heartbeat, 16);
     CHECK(sizeof heartbeat.heartbeat, 12);
@@ -298,10 +307,13 @@ static void check_degrees(void)
 int main(void)
 {
     check_constants();
-    check_sizes();
+    check_frame_sizes();
+    check_message_sizes();
     check_feet();
     check_degrees();
     check_frames();
+    check_collecting();
+    check_tallies();
     check_messages();
     check_reports();
     check_information_frames();

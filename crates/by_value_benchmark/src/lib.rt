@@ -32,6 +32,6 @@ fn one(answer: Answer) -> usize
     match answer {
         Answer::None => 0,
         Answer::Accepted(_) => 1,
-        Answer::Refused(_) => 1,
+        Answer::Refused(_, _) => 1,
     }
 }

@@ -56,7 +56,7 @@ leads-byte c m b bs = record { most = omega arith; whole = go (answerTo c b) }
         ≡ cond (isAnswered a) (ran 1 (s a)) (ran (run (next c b) m bs .count + 1) (run (next c b) m bs .last))
     go None = counted (omega arith)
     go (Accepted k) = refl
-    go (Refused n) = refl
+    go (Refused n at) = refl
 
 module _ {c d : Collector} {m m′ bs : List ℕ} {i : ℕ} where
   leads-more : {r : Run} → Leads c m bs (unanswered i d m′) → Leads d m′ (drop i bs) r → Leads c m bs (runBehind i r)

@@ -1,23 +1,20 @@
 -- Bytes without a flag, one at a time and many at once.
 -- Assumes nothing.
-use mathlib.Core.Path.{_≡_, refl, sym, ap, _∙_, subst}
-use mathlib.Core.Bool.{Bool, true, false, cond, _||_}
+use mathlib.Core.Path.{_≡_, refl, sym, ap, ap₂, _∙_, subst}
+use mathlib.Core.Bool.{Bool, true, false, cond}
 use Prim.Native.Nat.{ℕ, zero, suc, _+_, _-_, _≤_, _<_}
 use mathlib.Core.List.{List, [], _∷_, foldl-append}
 use native.Mathlib.Omega.{arith}
 use native.Mathlib.Numerals.{add-one}
-use lib.Dec.{eqb, ltb}
-use lib.ListN.{length, take, drop, getD, set, drop-of-length-le, length-drop}
+use lib.Dec.{eqb}
+use lib.ListN.{length, take, drop, getD, set, drop-of-length-le, length-take, length-drop}
 use lib.Seq.{take-add, take-all, drop-cons}
-use borrow.Author.Tests.{eq-eqb, ne-eqb, eqb-false, ltb-true}
-use Rattle.numbers.specs.Bits.{_⊕_}
+use borrow.Author.Tests.{eq-eqb, ne-eqb, eqb-false}
 use Rattle.framing.specs.Stuffing.{flag, controlEscape, Flagless}
-use Rattle.collecting.specs.declared.Phase.{Phase}
-use Rattle.collecting.specs.declared.Phase.the-variants.{LeadIn, Open, Escape, BadEscape, TooLong}
 use Rattle.collecting.specs.declared.Collector.{Collector}
-use Rattle.collecting.specs.Step.{held, cleared, turned, collected, unescaped, inside, taken, next}
+use Rattle.collecting.specs.Step.{inside, taken, next}
 use Rattle.collecting.specs.Stream.{after, unflagged}
-use Rattle.collecting.specs.Stretch.{opened, Passed}
+use Rattle.collecting.specs.Stretch.{opened, Within, Passed}
 use Rattle.collecting.proofs.Cases.{taken-within, inside-next, collected-room, open-other}
 use Rattle.collecting.proofs.Holding.{stuck}
 use Rattle.collecting.proofs.Ranging.{taken-most}
@@ -65,51 +62,29 @@ unflagged-drop (suc k) (b ∷ bs) h = go (eqb b flag) h (unflagged-drop k bs)
     go true h f = absurd (omega arith)
     go false h f = omega (arith, f (omega arith))
 
-chosen-most : (t : Bool) (c d : Collector) → c .control .count ≤ 438 → d .control .count ≤ 438 → cond t c d .control .count ≤ 438
-chosen-most true c d h g = h
-chosen-most false c d h g = g
-
-collected-most : (n : ℕ) (room : List ℕ) (b : ℕ) → collected n room b .control .count ≤ 438
-unfolding collected
-collected-most n room b = go (ltb n 438) refl
-  where
-    go : (t : Bool) → ltb n 438 ≡ t → cond t (held (record { count = n + 1; phase = Open }) (set room n b)) (cleared TooLong) .control .count ≤ 438
-    go true e = omega (arith, ltb-true n 438 e)
-    go false e = omega arith
-
--- no byte leads over 438
-inside-most : (p : Phase) (c : Collector) (b : ℕ) → c .control .count ≤ 438 → inside p c b .control .count ≤ 438
-unfolding inside unescaped
-inside-most LeadIn c b h = h
-inside-most Open c b h = chosen-most (eqb b controlEscape) (turned Escape c) _ h (collected-most (c .control .count) (c .room) b)
-inside-most Escape c b h = chosen-most (eqb b 0x5D || eqb b 0x5E) _ (cleared BadEscape) (collected-most (c .control .count) (c .room) (b ⊕ 0x20)) (omega arith)
-inside-most BadEscape c b h = h
-inside-most TooLong c b h = h
-
 -- no bytes; a byte; bytes and then others
-pub passed-none : {c : Collector} {bs : List ℕ} → c .control .count ≤ 438 → Passed c bs 0 c
+pub passed-none : {c : Collector} {bs : List ℕ} → Passed c bs 0 c
 unfolding after
-passed-none h = record { before = omega arith; within = h; state = refl }
+passed-none = record { before = omega arith; state = refl }
 
-passed-byte : (c : Collector) (b : ℕ) (bs : List ℕ) → c .control .count ≤ 438 → (b ≡ flag → ⊥) → Passed c (b ∷ bs) 1 (inside (c .control .phase) c b)
+passed-byte : (c : Collector) (b : ℕ) (bs : List ℕ) → Within (c .control) → (b ≡ flag → ⊥) → Passed c (b ∷ bs) 1 (inside (c .control .phase) c b)
 unfolding after unflagged
-passed-byte c b bs h n = record { before = simp (ne-eqb b flag n) (omega arith); within = inside-most (c .control .phase) c b h; state = inside-next c b h n }
+passed-byte c b bs h n = record { before = simp (ne-eqb b flag n) (omega arith); state = inside-next c b h n }
 
 passed-more : {c d e : Collector} {bs : List ℕ} {k j : ℕ} → Passed c bs k d → Passed d (drop k bs) j e → Passed c bs (k + j) e
 unfolding after
 passed-more {c} {d} {e} {bs} {k} {j} p q = record {
   before = omega (arith, unflagged-drop k bs (p .before), q .before);
-  within = q .within;
   state = q .state ∙ ap (λ (s : Collector). after s (take j (drop k bs))) (p .state) ∙ sym (foldl-append next c (take k bs) (take j (drop k bs)))
       ∙ ap (after c) (sym (take-add k j bs));
 }
 
-pub passed-one : {c d e : Collector} {bs : List ℕ} {k : ℕ} → Passed c bs k d → k < length bs → (getD bs k 0 ≡ flag → ⊥)
+pub passed-one : {c d e : Collector} {bs : List ℕ} {k : ℕ} → Passed c bs k d → Within (d .control) → k < length bs → (getD bs k 0 ≡ flag → ⊥)
     → e ≡ inside (d .control .phase) d (getD bs k 0) → Passed c bs (k + 1) e
-passed-one {c} {d} {e} {bs} {k} p h n q =
+passed-one {c} {d} {e} {bs} {k} p w h n q =
     passed-more p
     (subst (λ (t : List ℕ). Passed d t 1 e) (sym (drop-cons bs k 0 h))
-    (subst (Passed d (getD bs k 0 ∷ drop (suc k) bs) 1) (sym q) (passed-byte d (getD bs k 0) (drop (suc k) bs) (p .within) n)))
+    (subst (Passed d (getD bs k 0 ∷ drop (suc k) bs) 1) (sym q) (passed-byte d (getD bs k 0) (drop (suc k) bs) w n)))
 
 pub passed-all : {c d : Collector} {bs : List ℕ} {k : ℕ} → Passed c bs k d → unflagged (drop k bs) ≡ 0 → k ≡ unflagged bs
 passed-all {bs = bs} {k = k} p e = omega (arith, e, unflagged-drop k bs (p .before))
@@ -122,25 +97,33 @@ pub passed-part : {c d e : Collector} {bs : List ℕ} {n k : ℕ} → Passed c b
 passed-part {d = d} {e = e} {bs = bs} {n = n} {k = k} p q = passed-more p (subst (λ (t : List ℕ). Passed d t k e) (rest bs n) q)
 
 -- plain bytes, between flags
-counts : {room : List ℕ} {i j : ℕ} → i ≡ j → opened i room ≡ opened j room
-counts {room} e = ap (λ (k : ℕ). opened k room) e
+counts : {room : List ℕ} {i j k l : ℕ} → i ≡ j → k ≡ l → opened i k room ≡ opened j l room
+counts {room} e f = ap₂ (λ (n at : ℕ). opened n at room) e f
 
-module _ {n : ℕ} {start bs : List ℕ} where
-  pub plain-none : n ≤ 438 → Passed (opened n start) bs 0 (opened (n + 0) start)
-  plain-none h = subst (Passed (opened n start) bs 0) (counts (omega arith)) (passed-none h)
+module _ {n at : ℕ} {start bs : List ℕ} where
+  pub plain-none : Passed (opened n at start) bs 0 (opened (n + 0) (at + 0) start)
+  plain-none = subst (Passed (opened n at start) bs 0) (counts (omega arith) (omega arith)) passed-none
 
-  pub plain-one : {i : ℕ} {room : List ℕ} → Passed (opened n start) bs i (opened (n + i) room) → i < length bs → n + i < 438
-      → (getD bs i 0 ≡ controlEscape → ⊥) → (getD bs i 0 ≡ flag → ⊥) → Passed (opened n start) bs (i + 1) (opened (n + (i + 1)) (set room (n + i) (getD bs i 0)))
-  plain-one {i} {room} p h l e f =
-      passed-one p h f (counts (omega arith) ∙ collected-room (n + i) room (getD bs i 0) l ∙ open-other (opened (n + i) room) (getD bs i 0) refl e)
+  pub plain-one : {i : ℕ} {room : List ℕ} → Passed (opened n at start) bs i (opened (n + i) (at + i) room) → i < length bs → n + i < 438 → at + i < 878
+      → (getD bs i 0 ≡ controlEscape → ⊥) → (getD bs i 0 ≡ flag → ⊥)
+      → Passed (opened n at start) bs (i + 1) (opened (n + (i + 1)) (at + (i + 1)) (set room (n + i) (getD bs i 0)))
+  plain-one {i} {room} p h l m e f =
+      passed-one p (record { count = omega arith; stuffed = omega arith }) h f
+      (counts (omega arith) (omega arith) ∙ collected-room (n + i) (at + i + 1) room (getD bs i 0) l ∙ open-other (opened (n + i) (at + i) room) (getD bs i 0) refl e)
 
 -- where a byte changes nothing, all before the flag pass
-pub passed-stuck : (c : Collector) (bs : List ℕ) → c .control .count ≤ 438 → ((b : ℕ) → inside (c .control .phase) c b ≡ c) → Passed c bs (unflagged bs) c
+pub passed-stuck : (c : Collector) (bs : List ℕ) → Within (c .control) → ((b : ℕ) → inside (c .control .phase) c b ≡ c) → Passed c bs (unflagged bs) c
 unfolding after
-passed-stuck c bs h stays = record { before = omega arith; within = h; state = sym (stuck c h stays (take (unflagged bs) bs) (unflagged-flagless bs)) }
+passed-stuck c bs h stays = record { before = omega arith; state = sym (stuck c h stays (take (unflagged bs) bs) (unflagged-flagless bs)) }
 
--- where a byte comes, a state is taken as one within 438 bytes
-pub after-taken : (c : Collector) (bs : List ℕ) → 1 ≤ length bs → after (taken c) bs ≡ after c bs
+-- where a byte comes, a state is taken as one that is not over
+after-taken : (c : Collector) (bs : List ℕ) → 1 ≤ length bs → after (taken c) bs ≡ after c bs
 unfolding after next
 after-taken c [] h = absurd (omega arith)
 after-taken c (b ∷ bs) h = simp (taken-within (taken c) (taken-most c))
+
+pub passed-taken : {c d e : Collector} {bs : List ℕ} {k : ℕ} → d ≡ taken c → 1 ≤ k → Passed d bs k e → Passed c bs k e
+passed-taken {c} {d} {e} {bs} {k} t h p = record {
+  before = p .before;
+  state = p .state ∙ ap (λ (d : Collector). after d (take k bs)) t ∙ after-taken c (take k bs) (omega (arith, length-take k bs, unflagged-most bs, p .before));
+}

@@ -40,7 +40,7 @@ serial-found before m flips i f all some = found before m flips 0 0 f (serial-bu
 
 -- flips that agree exactly where a test holds
 by-test : (before m flips : List ℕ) (low high : ℕ) (t : Bool) → Flips m flips low high → eqb (fcs flips) (256 * high + low) ≡ t
-    → Answered before (flipped m flips low high) (cond t (message (flip m flips)) (refused 5))
+    → Answered before (flipped m flips low high) (λ at. cond t (message (flip m flips)) (refused 5 at))
 by-test before m flips low high t f e = rw e at (by-the-sequence before m flips low high f)
 
 pub one-passes : OnePasses
@@ -81,7 +81,7 @@ last-byte (suc n) b h = last-byte n b h
 -- flips that are their own remainder, and agree only where the high byte has none
 in-low-byte : (before m flips : List ℕ) (low high : ℕ) → Flips m flips low high
     → fcs flips ≡ polynomial (bits flips) → (polynomial (bits flips) ≡ 256 * high + low → high ≡ 0)
-    → Answered before (flipped m flips low high) (cond (eqb high 0 && eqb (polynomial (bits flips)) low) (message (flip m flips)) (refused 5))
+    → Answered before (flipped m flips low high) (λ at. cond (eqb high 0 && eqb (polynomial (bits flips)) low) (message (flip m flips)) (refused 5 at))
 in-low-byte before m flips low high f own none =
     let s = 256 * high + low in
     let p = polynomial (bits flips) in

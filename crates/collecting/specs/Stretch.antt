@@ -6,18 +6,23 @@ use mathlib.Core.Bool.{cond}
 use mathlib.Core.List.{List}
 use lib.ListN.{length, take, drop}
 use Rattle.collecting.specs.declared.Phase.the-variants.{Open}
+use Rattle.collecting.specs.declared.Control.{Control}
 use Rattle.collecting.specs.declared.Collector.{Collector}
-use Rattle.collecting.specs.Step.{held}
+use Rattle.collecting.specs.Step.{stateIn}
 use Rattle.collecting.specs.Stream.{after, isAnswered, Run, ran, run, unflagged}
 
--- between flags, with n bytes collected
-abbrev pub opened : ℕ → List ℕ → Collector
-opened n room = held (record { count = n; phase = Open }) room
+-- between flags, with n bytes collected and `at` stuffed ones taken
+abbrev pub opened : ℕ → ℕ → List ℕ → Collector
+opened n at room = stateIn Open n at room
+
+-- neither over 438 bytes nor over 878 stuffed ones
+pub record Within (c : Control) : Type 0 where
+  pub count : c .count ≤ 438
+  pub stuffed : c .stuffed ≤ 878
 
 -- k of the bytes were taken, no flag among them, and the state went from c to d
 pub record Passed (c : Collector) (bytes : List ℕ) (k : ℕ) (d : Collector) : Type 0 where
   pub before : k ≤ unflagged bytes
-  pub within : d .control .count ≤ 438
   pub state : d ≡ after c (take k bytes)
 
 -- a run, behind i bytes that were answered nothing

@@ -4,9 +4,9 @@ ghost use mathlib.Core.List.{_++_};
 ghost use Prim.Native.Nat.{_+_, _-_, _*_, _≤_, _<_, min};
 ghost use lib.ListN.{length, take, replicate};
 ghost use Rattle.fcs.specs.Fcs.{fcs};
-ghost use Rattle.collecting.specs.Step.{held, cleared, fresh, collected, unescaped, inside, checked, closed, taken, next, shown, stepped, left};
+ghost use Rattle.collecting.specs.Step.{held, cleared, fresh, collected, unescaped, inside, checked, closed, over, taken, next, shown, stepped, left};
 ghost use Rattle.collecting.specs.Stream.{after, isAnswered, run, fed, unflagged};
-ghost use Rattle.collecting.specs.Stretch.{opened, Passed, Leads};
+ghost use Rattle.collecting.specs.Stretch.{opened, Within, Passed, Leads};
 
 pub enum Phase {
     // before the first flag
@@ -23,7 +23,10 @@ pub enum Phase {
 
 // What is kept from one byte to the next, beside the room.
 pub struct Control {
+    // bytes collected
     pub count: usize,
+    // stuffed bytes taken since the opening flag; it stands still once answer 1 or 3 is met
+    pub stuffed: usize,
     pub phase: Phase,
 }
 
@@ -32,8 +35,9 @@ pub enum Answer {
     None,
     // 0, with a message of so many bytes
     Accepted(usize),
-    // the number, 1 to 5
-    Refused(u8),
+    // the number, 1 to 5, and the position: how many stuffed bytes since the opening flag had been taken when
+    // the fault was met
+    Refused(u8, usize),
 }
 
 pub struct Stepped {
@@ -48,6 +52,7 @@ impl Control {
     {
         Self {
             count: 0,
+            stuffed: 0,
             phase: Phase::LeadIn,
         }
     }
@@ -57,8 +62,8 @@ impl Control {
 pub fn step(control: Control, room: &mut [u8; 438], message: &mut [u8; 436], byte: u8) -> Stepped
     ensures { λ r. ⌜ left r (now (room .exit)) (now (message .exit)) ≡ stepped (held control (now (room .entry))) (now (message .entry)) byte ⌝ }
 {
-    // a count over 438 is taken as the fresh state
-    if 438 < control.count {
+    // a count over 438, or over 878 stuffed bytes, is taken as the fresh state
+    if is_over(control) {
         let control = restarted(byte, room);
         return Stepped {
             control,
@@ -68,7 +73,7 @@ pub fn step(control: Control, room: &mut [u8; 438], message: &mut [u8; 436], byt
     // every flag closes one frame and opens the next
     if byte == 0x7E {
         let answer = close(control, room, message);
-        let open = clear(Phase::Open, room);
+        let open = clear(Phase::Open, 0, room);
         return Stepped {
             control: open,
             answer,
@@ -81,30 +86,42 @@ pub fn step(control: Control, room: &mut [u8; 438], message: &mut [u8; 436], byt
     }
 }
 
+// More than any stream leads to.
+fn is_over(control: Control) -> bool
+    ensures { λ r. ⌜ r ≡ over control ⌝ }
+{
+    (438 < control.count) | (878 < control.stuffed)
+}
+
 // A byte from the fresh state.
 fn restarted(first: u8, room: &mut [u8; 438]) -> Control
     ensures { λ r. ⌜ held r (now (room .exit)) ≡ next fresh first ⌝ }
 {
     if first == 0x7E {
-        return clear(Phase::Open, room);
+        return clear(Phase::Open, 0, room);
     }
-    clear(Phase::LeadIn, room)
+    clear(Phase::LeadIn, 0, room)
 }
 
 // Nothing collected, and the room zero.
-fn clear(phase: Phase, room: &mut [u8; 438]) -> Control
-    ensures { λ r. ⌜ held r (now (room .exit)) ≡ cleared phase ⌝ }
+fn clear(phase: Phase, stuffed: usize, room: &mut [u8; 438]) -> Control
+    ensures { λ r. ⌜ held r (now (room .exit)) ≡ cleared phase stuffed ⌝ }
 {
     *room = [0u8; 438];
-    Control { count: 0, phase }
+    Control {
+        count: 0,
+        stuffed,
+        phase,
+    }
 }
 
 // A flag.
 fn close(control: Control, room: &[u8; 438], message: &mut [u8; 436]) -> Answer
     requires { ⌜ control .count ≤ 438 ⌝ }
-    ensures { λ r. ⌜ (r ≡ closed (control .phase) (control .count) (now (room .entry))) × (now (message .exit) ≡ shown r (now (room .entry)) (now (message .entry))) ⌝ }
+    ensures { λ r. ⌜ (r ≡ closed (control .phase) (control .count) (control .stuffed) (now (room .entry))) × (now (message .exit) ≡ shown r (now (room .entry)) (now (message .entry))) ⌝ }
 {
     let n = control.count;
+    let at = control.stuffed;
     let phase = control.phase;
     match phase {
         Phase::LeadIn => Answer::None,
@@ -113,27 +130,27 @@ fn close(control: Control, room: &[u8; 438], message: &mut [u8; 436]) -> Answer
                 return Answer::None;
             }
             if n < 3 {
-                return Answer::Refused(4);
+                return Answer::Refused(4, at);
             }
-            check(n - 2, room, message)
+            check(n - 2, at, room, message)
         }
-        Phase::Escape => Answer::Refused(2),
-        Phase::BadEscape => Answer::Refused(1),
-        Phase::TooLong => Answer::Refused(3),
+        Phase::Escape => Answer::Refused(2, at),
+        Phase::BadEscape => Answer::Refused(1, at),
+        Phase::TooLong => Answer::Refused(3, at),
     }
 }
 
 // k bytes of a message, and behind them its check sequence, low byte first.
-fn check(k: usize, room: &[u8; 438], message: &mut [u8; 436]) -> Answer
+fn check(k: usize, at: usize, room: &[u8; 438], message: &mut [u8; 436]) -> Answer
     requires { ⌜ k ≤ 436 ⌝ }
-    ensures { λ r. ⌜ (r ≡ checked k (now (room .entry))) × (now (message .exit) ≡ shown r (now (room .entry)) (now (message .entry))) ⌝ }
+    ensures { λ r. ⌜ (r ≡ checked k at (now (room .entry))) × (now (message .exit) ≡ shown r (now (room .entry)) (now (message .entry))) ⌝ }
 {
     let sent = word(room[k + 1], room[k]);
     if sequence_of(room, k) == sent {
         show(room, k, message);
         return Answer::Accepted(k);
     }
-    Answer::Refused(5)
+    Answer::Refused(5, at)
 }
 
 fn sequence_of(bytes: &[u8], k: usize) -> u16
@@ -164,48 +181,52 @@ fn show(bytes: &[u8], k: usize, message: &mut [u8; 436])
 
 // A byte that is no flag.
 fn inside_frame(control: Control, room: &mut [u8; 438], byte: u8) -> Control
+    requires { ⌜ control .stuffed ≤ 878 ⌝ }
     ensures { λ r. ⌜ held r (now (room .exit)) ≡ inside (control .phase) (held control (now (room .entry))) byte ⌝ }
 {
     let n = control.count;
+    let at = control.stuffed;
     let phase = control.phase;
     match phase {
         Phase::Open => {
             if byte == 0x7D {
                 Control {
                     count: n,
+                    stuffed: at + 1,
                     phase: Phase::Escape,
                 }
             } else {
-                collect(n, room, byte)
+                collect(n, at + 1, room, byte)
             }
         }
-        Phase::Escape => after_escape(n, room, byte),
+        Phase::Escape => after_escape(n, at + 1, room, byte),
         _ => control,
     }
 }
 
-// A byte that is no flag, behind 0x7D.
-fn after_escape(n: usize, room: &mut [u8; 438], byte: u8) -> Control
-    ensures { λ r. ⌜ held r (now (room .exit)) ≡ unescaped n (now (room .entry)) byte ⌝ }
+// A byte that is no flag, behind 0x7D: the at-th stuffed byte.
+fn after_escape(n: usize, at: usize, room: &mut [u8; 438], byte: u8) -> Control
+    ensures { λ r. ⌜ held r (now (room .exit)) ≡ unescaped n at (now (room .entry)) byte ⌝ }
 {
     if (byte == 0x5D) | (byte == 0x5E) {
-        return collect(n, room, byte ^ 0x20);
+        return collect(n, at, room, byte ^ 0x20);
     }
-    clear(Phase::BadEscape, room)
+    clear(Phase::BadEscape, at, room)
 }
 
-// One collected byte more, behind n others.
-fn collect(n: usize, room: &mut [u8; 438], byte: u8) -> Control
-    ensures { λ r. ⌜ held r (now (room .exit)) ≡ collected n (now (room .entry)) byte ⌝ }
+// One collected byte more, behind n others, the last of it the at-th stuffed byte.
+fn collect(n: usize, at: usize, room: &mut [u8; 438], byte: u8) -> Control
+    ensures { λ r. ⌜ held r (now (room .exit)) ≡ collected n at (now (room .entry)) byte ⌝ }
 {
     if n < 438 {
         room[n] = byte;
         return Control {
             count: n + 1,
+            stuffed: at,
             phase: Phase::Open,
         };
     }
-    clear(Phase::TooLong, room)
+    clear(Phase::TooLong, at, room)
 }
 
 pub struct Fed {
@@ -278,35 +299,9 @@ pub struct Filled {
     pub taken: usize,
 }
 
-// The bytes before the first flag, or all where there is none: none of them is answered. With no byte to
-// take the state is handed back as it came.
+// The bytes before the first flag, or all where there is none, stretch after stretch: none of them is
+// answered. With no byte to take the state is handed back as it came.
 pub fn fill(control: Control, room: &mut [u8; 438], bytes: &[u8]) -> Filled
-    ensures { λ r. ⌜ r .taken ≡ unflagged (now (bytes .entry)) ⌝ }
-    ensures { λ r. ⌜ held (r .control) (now (room .exit)) ≡ after (held control (now (room .entry))) (take (r .taken) (now (bytes .entry))) ⌝ }
-{
-    if bytes.len() == 0 {
-        return Filled { control, taken: 0 };
-    }
-    if bytes[0] == 0x7E {
-        return Filled { control, taken: 0 };
-    }
-    let usable = within(control, room);
-    fill_within(usable, room, bytes)
-}
-
-// A count over 438 is taken as the fresh state.
-fn within(control: Control, room: &mut [u8; 438]) -> Control
-    ensures { λ r. ⌜ held r (now (room .exit)) ≡ taken (held control (now (room .entry))) ⌝ }
-{
-    if 438 < control.count {
-        return clear(Phase::LeadIn, room);
-    }
-    control
-}
-
-// Stretch after stretch, up to a flag.
-fn fill_within(control: Control, room: &mut [u8; 438], bytes: &[u8]) -> Filled
-    requires { ⌜ control .count ≤ 438 ⌝ }
     ensures { λ r. ⌜ r .taken ≡ unflagged (now (bytes .entry)) ⌝ }
     ensures { λ r. ⌜ held (r .control) (now (room .exit)) ≡ after (held control (now (room .entry))) (take (r .taken) (now (bytes .entry))) ⌝ }
 {
@@ -331,11 +326,12 @@ fn fill_within(control: Control, room: &mut [u8; 438], bytes: &[u8]) -> Filled
 
 // A stretch, then the byte that ends it, unless it is a flag.
 fn through_stretch(control: Control, room: &mut [u8; 438], bytes: &[u8]) -> Filled
-    requires { ⌜ (control .count ≤ 438) × (1 ≤ unflagged (now bytes)) ⌝ }
+    requires { ⌜ 1 ≤ unflagged (now bytes) ⌝ }
     ensures { λ r. ⌜ Passed (held control (now (room .entry))) (now (bytes .entry)) (r .taken) (held (r .control) (now (room .exit))) ⌝ }
     ensures { λ r. ⌜ 1 ≤ r .taken ⌝ }
 {
-    let s = stretch(control, room, bytes);
+    let usable = within(control, room);
+    let s = stretch(usable, room, bytes);
     let k = s.taken;
     let c = s.control;
     if k < bytes.len() {
@@ -350,19 +346,32 @@ fn through_stretch(control: Control, room: &mut [u8; 438], bytes: &[u8]) -> Fill
     s
 }
 
+// A state that is over is taken as the fresh one.
+fn within(control: Control, room: &mut [u8; 438]) -> Control
+    ensures { λ r. ⌜ held r (now (room .exit)) ≡ taken (held control (now (room .entry))) ⌝ }
+{
+    if is_over(control) {
+        return clear(Phase::LeadIn, 0, room);
+    }
+    control
+}
+
 // The bytes that the phase takes at once: plain ones between flags, and all up to a flag where nothing else counts.
 fn stretch(control: Control, room: &mut [u8; 438], bytes: &[u8]) -> Filled
-    requires { ⌜ control .count ≤ 438 ⌝ }
+    requires { ⌜ Within control ⌝ }
+    ensures { λ r. ⌜ Within (r .control) ⌝ }
     ensures { λ r. ⌜ Passed (held control (now (room .entry))) (now (bytes .entry)) (r .taken) (held (r .control) (now (room .exit))) ⌝ }
 {
     let n = control.count;
+    let at = control.stuffed;
     let phase = control.phase;
     match phase {
         Phase::Open => {
-            let k = plain(n, room, bytes);
+            let k = plain(n, at, room, bytes);
             Filled {
                 control: Control {
                     count: n + k,
+                    stuffed: at + k,
                     phase: Phase::Open,
                 },
                 taken: k,
@@ -389,12 +398,14 @@ fn before_flag(bytes: &[u8]) -> usize
     i
 }
 
-// The bytes that are neither flag nor escape, behind n others, as many as stand in a row and have room: how many.
-fn plain(n: usize, room: &mut [u8; 438], bytes: &[u8]) -> usize
-    requires { ⌜ n ≤ 438 ⌝ }
-    ensures { λ k. ⌜ Passed (opened n (now (room .entry))) (now (bytes .entry)) k (opened (n + k) (now (room .exit))) ⌝ }
+// The bytes that are neither flag nor escape, behind n others and `at` stuffed ones, as many as stand in a row
+// and have room: how many.
+fn plain(n: usize, at: usize, room: &mut [u8; 438], bytes: &[u8]) -> usize
+    requires { ⌜ (n ≤ 438) × (at ≤ 878) ⌝ }
+    ensures { λ k. ⌜ (n + k ≤ 438) × (at + k ≤ 878) ⌝ }
+    ensures { λ k. ⌜ Passed (opened n at (now (room .entry))) (now (bytes .entry)) k (opened (n + k) (at + k) (now (room .exit))) ⌝ }
 {
-    let end = least(438 - n, bytes.len());
+    let end = least(least(438 - n, 878 - at), bytes.len());
     let mut i = 0;
     while i < end {
         let sent = bytes[i];
@@ -422,7 +433,7 @@ pub fn is_answered(answer: Answer) -> bool
     match answer {
         Answer::None => false,
         Answer::Accepted(_) => true,
-        Answer::Refused(_) => true,
+        Answer::Refused(_, _) => true,
     }
 }
 

@@ -1,5 +1,5 @@
 // Collects the recording on standard input, in one piece, byte by byte and in pieces of odd sizes, and
-// prints each answer: where its closing flag stands, the number, and the message. The recording and
+// prints each answer: where its closing flag stands, the number, and the message or the position. The recording and
 // the text that is stored beside this program come from rust/reference.
 ghost use Prim.Native.Nat.{_+_, _≤_};
 ghost use lib.ListN.{length};
@@ -17,11 +17,13 @@ fn print_answer(at: usize, answer: Answer, message: &[u8; 436]) {
             printing::hex_bytes(STDOUT_FILENO, message, k);
             io::write_all(STDOUT_FILENO, b"\n");
         }
-        Answer::Refused(n) => {
+        Answer::Refused(n, position) => {
             io::print_decimal(STDOUT_FILENO, at as u64);
             io::write_all(STDOUT_FILENO, b" ");
             io::print_decimal(STDOUT_FILENO, n as u64);
-            io::write_all(STDOUT_FILENO, b" -\n");
+            io::write_all(STDOUT_FILENO, b" - ");
+            io::print_decimal(STDOUT_FILENO, position as u64);
+            io::write_all(STDOUT_FILENO, b"\n");
         }
     }
 }

@@ -37,7 +37,7 @@ unstuffs [] = refl
 unstuffs (b ∷ bs) = unstuff-escape b (stuff bs) ∙ ap (byteBefore b) (unstuffs bs)
 
 -- 0x5D and 0x5E are what the two escaped bytes become
-escape-back : (c : ℕ) → (eqb c 0x5D || eqb c 0x5E) ≡ true → escape (c ⊕ 0x20) ≡ controlEscape ∷ c ∷ []
+pub escape-back : (c : ℕ) → (eqb c 0x5D || eqb c 0x5E) ≡ true → escape (c ⊕ 0x20) ≡ controlEscape ∷ c ∷ []
 unfolding escape _⊕_
 escape-back c e = go (eqb c 0x5D) (eqb c 0x5E) refl refl e
   where
@@ -46,7 +46,7 @@ escape-back c e = go (eqb c 0x5D) (eqb c 0x5E) refl refl e
     go false true f g h = subst (λ (c : ℕ). escape (c ⊕ 0x20) ≡ controlEscape ∷ c ∷ []) (sym (eqb-true c 0x5E g)) refl
     go false false f g h = let z : true ≡ false = sym h in cc
 
-escape-plain : (b : ℕ) → (b ≡ flag → ⊥) → eqb b controlEscape ≡ false → escape b ≡ b ∷ []
+pub escape-plain : (b : ℕ) → (b ≡ flag → ⊥) → eqb b controlEscape ≡ false → escape b ≡ b ∷ []
 unfolding escape
 escape-plain b n e = simp (ne-eqb b flag n, e)
 

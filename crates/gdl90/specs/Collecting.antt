@@ -9,7 +9,9 @@ use Rattle.collecting.specs.declared.Phase.{Phase}
 use Rattle.collecting.specs.declared.Phase.the-variants.{LeadIn, Open, Escape, BadEscape, TooLong}
 use Rattle.collecting.specs.declared.Control.{Control}
 use Rattle.collecting.specs.declared.Answer.{Answer}
-use Rattle.collecting.specs.Stream.{isAnswered, answerNumber, messageLength, Run}
+use Rattle.collecting.specs.declared.Answer.the-variants.{None, Accepted, Refused}
+use Rattle.collecting.specs.declared.Fed.{Fed}
+use Rattle.collecting.specs.Stream.{isAnswered, answerNumber, messageLength, position, Run}
 use Rattle.gdl90.specs.declared.FrameAnswer.{FrameAnswer}
 use Rattle.gdl90.specs.declared.FeedControl.{FeedControl}
 use Rattle.gdl90.specs.declared.FeedAnswer.{FeedAnswer}
@@ -30,16 +32,21 @@ phaseOf n = cond (eqb n 0) LeadIn (cond (eqb n 1) Open (cond (eqb n 2) Escape (c
 
 -- a phase over 4 is none: its state is taken as the fresh one, as one with a count over 438 is
 unfoldable pub controlOf : FeedControl → Control
-controlOf c = cond (leb (c .phase) 4) (record { count = c .count; phase = phaseOf (c .phase) }) (record { count = 439; phase = LeadIn })
+controlOf c = cond (leb (c .phase) 4) (record { count = c .count; stuffed = c .stuffed; phase = phaseOf (c .phase) }) (record { count = 439; stuffed = 0; phase = LeadIn })
 
-abbrev pub feedAnswer : Control → ℕ → Answer → FeedAnswer
-feedAnswer c n a = record {
-  control = record { count = c .count; phase = phaseNumber (c .phase) };
-  taken = n;
-  answered = isAnswered a;
-  number = answerNumber a;
-  length = messageLength a;
+abbrev pub feedAnswer : Fed → FeedAnswer
+feedAnswer f = record {
+  control = record { count = f .control .count; stuffed = f .control .stuffed; phase = phaseNumber (f .control .phase) };
+  taken = f .taken;
+  answered = isAnswered (f .answer);
+  number = answerNumber (f .answer);
+  length = messageLength (f .answer);
+  position = position (f .answer);
 }
 
 abbrev pub ranAnswer : Run → FeedAnswer
-ranAnswer r = feedAnswer (r .last .state .control) (r .count) (r .last .answer)
+ranAnswer r = feedAnswer (record { control = r .last .state .control; taken = r .count; answer = r .last .answer })
+
+-- the answer in such a struct
+unfoldable pub answerIn : FeedAnswer → Answer
+answerIn f = cond (f .answered) (cond (eqb (f .number) 0) (Accepted (f .length)) (Refused (f .number) (f .position))) None

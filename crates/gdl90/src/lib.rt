@@ -5,7 +5,8 @@ ghost use Rattle.numbers.specs.Lent.{written};
 ghost use Rattle.fcs.specs.Fcs.{fcs};
 ghost use Rattle.framing.specs.Framing.{framing, framedOutput};
 ghost use Rattle.collecting.specs.Step.{held};
-ghost use Rattle.collecting.specs.Stream.{answerNumber, messageLength, run};
+ghost use Rattle.collecting.specs.Stream.{answerNumber, messageLength, position as Stream·position, run};
+ghost use Rattle.tallying.specs.Tally.{tallied};
 ghost use Rattle.heartbeat.specs.Heartbeat.{heartbeatRead};
 ghost use Rattle.initialization.specs.Initialization.{initializationRead};
 ghost use Rattle.report.specs.Reading.{ownshipRead, trafficRead};
@@ -15,7 +16,7 @@ ghost use Rattle.messages.specs.Message.{kindNumber};
 ghost use Rattle.information_frames.specs.Walk.{payloadFrames};
 ghost use Rattle.information_frames.specs.Answers.{frameList, nthFrame};
 ghost use Rattle.information_frames.specs.Adding.{adding, addedNumber, payloadAfter};
-ghost use Rattle.gdl90.specs.Collecting.{frameAnswer, phaseNumber, phaseOf, controlOf, feedAnswer, ranAnswer};
+ghost use Rattle.gdl90.specs.Collecting.{frameAnswer, phaseNumber, phaseOf, controlOf, feedAnswer, ranAnswer, answerIn};
 ghost use Rattle.units.specs.Degrees.{inDegrees};
 ghost use Rattle.units.specs.Feet.{pressureFeet, geometricFeet, terrainFeet};
 ghost use Rattle.gdl90.specs.Payload.{payloadListAnswer, payloadNthAnswer};
@@ -34,6 +35,7 @@ use c_structs::FlatUplinkRead;
 use codec::Written;
 use collecting::Answer;
 use collecting::Control;
+use collecting::Fed;
 use collecting::Phase;
 use framing::Framed;
 use generic_text::TextReading;
@@ -47,6 +49,7 @@ use message_types::InitializationRead;
 use message_types::Ownship;
 use message_types::Traffic;
 use messages::Kind;
+use tallying::Tally;
 use units::GeometricSteps;
 use units::InDegrees;
 use units::PressureSteps;
@@ -92,7 +95,10 @@ fn frame_answer(framed: Framed) -> FrameAnswer
 // What collecting keeps between two calls, beside the room: all zero is the fresh state.
 #[repr(C)]
 pub struct FeedControl {
+    // bytes in the room
     pub count: usize,
+    // stuffed bytes taken since the opening flag
+    pub stuffed: usize,
     // 0 before the first flag, 1 between flags, 2 behind 0x7D, 3 and 4 once answer 1 and 3 are met
     pub phase: u8,
 }
@@ -107,6 +113,8 @@ pub struct FeedAnswer {
     pub number: u8,
     // the message's, with number 0
     pub length: usize,
+    // with number 1 to 5 how many stuffed bytes since the opening flag had been taken when the fault was met
+    pub position: usize,
 }
 
 // `collecting::feed`.
@@ -117,30 +125,64 @@ pub extern "C" fn gdl90_feed(
     message: &mut [u8; 436],
     bytes: &[u8],
 ) -> FeedAnswer
-    ensures answer { λ r. ⌜ r ≡ ranAnswer (run (held (controlOf control) (now (room .entry))) (now (message .entry)) (now (bytes .entry))) ⌝ }
-    ensures room { λ _. ⌜ now (room .exit) ≡ run (held (controlOf control) (now (room .entry))) (now (message .entry)) (now (bytes .entry)) .last .state .room ⌝ }
-    ensures message { λ _. ⌜ now (message .exit) ≡ run (held (controlOf control) (now (room .entry))) (now (message .entry)) (now (bytes .entry)) .last .message ⌝ }
+    ensures { λ r. ⌜ (r ≡ ranAnswer (run (held (controlOf control) (now (room .entry))) (now (message .entry)) (now (bytes .entry))))
+        × (now (room .exit) ≡ run (held (controlOf control) (now (room .entry))) (now (message .entry)) (now (bytes .entry)) .last .state .room)
+        × (now (message .exit) ≡ run (held (controlOf control) (now (room .entry))) (now (message .entry)) (now (bytes .entry)) .last .message) ⌝ }
 {
     let fed = collecting::feed(control_of(control), room, message, bytes);
-    let after = fed.control;
-    let answer = fed.answer;
-    feed_answer(after, fed.taken, answer)
+    feed_answer(fed)
 }
 
-fn feed_answer(control: Control, taken: usize, answer: Answer) -> FeedAnswer
-    ensures { λ r. ⌜ r ≡ feedAnswer control taken answer ⌝ }
+// The same with a tally lent: the answer, where there is one, is counted.
+#[no_mangle]
+pub extern "C" fn gdl90_feed_tallied(
+    control: FeedControl,
+    room: &mut [u8; 438],
+    message: &mut [u8; 436],
+    bytes: &[u8],
+    tally: &mut Tally,
+) -> FeedAnswer
+    ensures { λ r. ⌜ (r ≡ ranAnswer (run (held (controlOf control) (now (room .entry))) (now (message .entry)) (now (bytes .entry))))
+        × (now (room .exit) ≡ run (held (controlOf control) (now (room .entry))) (now (message .entry)) (now (bytes .entry)) .last .state .room)
+        × (now (message .exit) ≡ run (held (controlOf control) (now (room .entry))) (now (message .entry)) (now (bytes .entry)) .last .message)
+        × (now (tally .exit) ≡ tallied (now (tally .entry)) (run (held (controlOf control) (now (room .entry))) (now (message .entry)) (now (bytes .entry)) .last .answer)) ⌝ }
 {
+    let fed = gdl90_feed(control, room, message, bytes);
+    let answer = answer_in(fed);
+    tallying::raise(tally, answer);
+    fed
+}
+
+fn answer_in(fed: FeedAnswer) -> Answer
+    ensures { λ r. ⌜ r ≡ answerIn fed ⌝ }
+{
+    if fed.answered {
+        if fed.number == 0 {
+            return Answer::Accepted(fed.length);
+        }
+        return Answer::Refused(fed.number, fed.position);
+    }
+    Answer::None
+}
+
+fn feed_answer(fed: Fed) -> FeedAnswer
+    ensures { λ r. ⌜ r ≡ feedAnswer fed ⌝ }
+{
+    let control = fed.control;
     let phase = control.phase;
     let control = FeedControl {
         count: control.count,
+        stuffed: control.stuffed,
         phase: phase_number(phase),
     };
+    let answer = fed.answer;
     FeedAnswer {
         control,
-        taken,
+        taken: fed.taken,
         answered: collecting::is_answered(answer),
         number: answer_number(answer),
         length: message_length(answer),
+        position: position(answer),
     }
 }
 
@@ -151,11 +193,13 @@ fn control_of(control: FeedControl) -> Control
     if control.phase <= 4 {
         return Control {
             count: control.count,
+            stuffed: control.stuffed,
             phase: phase_of(control.phase),
         };
     }
     Control {
         count: 439,
+        stuffed: 0,
         phase: Phase::LeadIn,
     }
 }
@@ -196,7 +240,7 @@ fn answer_number(answer: Answer) -> u8
     match answer {
         Answer::None => 0,
         Answer::Accepted(_) => 0,
-        Answer::Refused(n) => n,
+        Answer::Refused(n, _) => n,
     }
 }
 
@@ -206,7 +250,17 @@ fn message_length(answer: Answer) -> usize
     match answer {
         Answer::None => 0,
         Answer::Accepted(k) => k,
-        Answer::Refused(_) => 0,
+        Answer::Refused(_, _) => 0,
+    }
+}
+
+fn position(answer: Answer) -> usize
+    ensures { λ r. ⌜ r ≡ Stream·position answer ⌝ }
+{
+    match answer {
+        Answer::None => 0,
+        Answer::Accepted(_) => 0,
+        Answer::Refused(_, at) => at,
     }
 }
 

@@ -25,9 +25,9 @@ starred =
     -- 5: value 1 with a flip on each side of the border
     ∷ between (0x00 ∷ 0x81 ∷ 0x41 ∷ 0xDB ∷ 0xD0 ∷ 0x08 ∷ 0x03 ∷ 0xB2 ∷ 0x8B ∷ []) (message (0x00 ∷ 0x81 ∷ 0x41 ∷ 0xDB ∷ 0xD0 ∷ 0x08 ∷ 0x03 ∷ []))
     -- 6: what collecting answers, and what reading answers to the last
-    ∷ between (0x7D ∷ []) (refused 2)
-    ∷ between (0x7D ∷ 0x00 ∷ []) (refused 1)
-    ∷ between (0x07 ∷ 0x07 ∷ []) (refused 4)
+    ∷ between (0x7D ∷ []) (refused 2 1)
+    ∷ between (0x7D ∷ 0x00 ∷ []) (refused 1 2)
+    ∷ between (0x07 ∷ 0x07 ∷ []) (refused 4 2)
     ∷ between (0x07 ∷ 0x07 ∷ 0x00 ∷ []) (message (0x07 ∷ []))
     ∷ read (0x07 ∷ []) (Refused 7)
     -- 7: the last second of a day, and the next

@@ -22,7 +22,7 @@ use Rattle.collecting.proofs.Filling.{unflagged-most}
 use Rattle.collecting.proofs.Found.{frames-read}
 use Rattle.messages.specs.Message.{readMessage, readingNumber}
 use Rattle.messages.proofs.Retired.{has-byte, retired-is-17}
-use Rattle.listing.specs.Line.{Field, digits}
+use Rattle.listing.specs.Line.{Field, digits, dash}
 use Rattle.listing.specs.Listing.{State, collector, opening, start, answerLine, replyLine, textOf, counted, passed, advanced, reached, texts}
 use Rattle.listing.specs.Claims.{AddsLine, FramesListed, RetiredFrames}
 use Rattle.listing.proofs.Steps.{reached-append, texts-append, reached-taken}
@@ -63,9 +63,9 @@ module _ (before m : List ℕ) where
       (ap (answers fresh) (append-assoc before (flag ∷ stuffed) (flag ∷ [])) ∙ frames-read before m some most)
 
   -- between two flags the number of lines and the offset stay
-  same-line : (answer : ℕ) (id len : Field) → answerLine (reached opened stuffed .lister) answer id len ≡ answerLine (opened .lister) answer id len
+  same-line : (answer : ℕ) (id len pos : Field) → answerLine (reached opened stuffed .lister) answer id len pos ≡ answerLine (opened .lister) answer id len pos
   unfolding answerLine passed reached
-  same-line answer id len =
+  same-line answer id len pos =
       let s = reached start before in
       let lead : s .lister .lead ≤ s .lister .taken = omega (arith, lead-is before, unflagged-most before, reached-taken start before) in
       let inside : opened .lister .lead < opened .lister .taken = rw (reached-append start before (flag ∷ [])) (inside-flag s flag lead refl .0 .flagged) in
@@ -82,7 +82,7 @@ frames-listed before m some most =
     (texts-append s ws (flag ∷ [])
     ∙ ap₂ (λ (a b : List ℕ). a ++ b) (texts-flagless s ws (stuffed-flagless (m ++ lowFirst (fcs m)))) (append-nil (textOf (reached s ws) flag))
     ∙ ap (replyLine (reached s ws .lister)) (closing before m some most)
-    ∙ same-line before m (readingNumber (readMessage m)) (digits (getD m 0 0)) (digits (length m)))
+    ∙ same-line before m (readingNumber (readMessage m)) (digits (getD m 0 0)) (digits (length m)) dash)
 
 pub retired-frames : RetiredFrames
 unfolding framing

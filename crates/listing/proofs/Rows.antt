@@ -9,7 +9,7 @@ use lib.Seq.{getD-take, length-take-le}
 use Rattle.numbers.specs.Lent.{Stored}
 use Rattle.numbers.proofs.Storing.{then}
 use Rattle.collecting.specs.declared.Answer.{Answer}
-use Rattle.collecting.specs.declared.Answer.the-variants.{Accepted}
+use Rattle.collecting.specs.declared.Answer.the-variants.{Accepted, Refused}
 use Rattle.collecting.specs.Stream.{reply}
 use Rattle.collecting.specs.Claims.{Ranged}
 use Rattle.messages.specs.Message.{readMessage, readingNumber}
@@ -50,8 +50,14 @@ pub ranged : (a : Answer) (k : ℕ) → a ≡ Accepted k → Ranged a → (1 ≤
 unfolding Ranged
 ranged a k e w = rw e at w
 
+pub position-most : (a : Answer) (n at : ℕ) → a ≡ Refused n at → Ranged a → at ≤ 878
+unfolding Ranged
+position-most a n at e w =
+    let r : (1 ≤ n) × (n ≤ 5) × (at ≤ 878) = rw e at w in
+    r .2
+
 -- what an accepted message's line says, from the lent message and the number of its bytes
 pub accepted-line : (l : Lister) (a : Answer) (m : List ℕ) (k : ℕ) → a ≡ Accepted k → 1 ≤ k → k ≤ length m
-    → answerLine l (readingNumber (readMessage (take k m))) (digits (getD m 0 0)) (digits k) ≡ replyLine l (reply a m)
+    → answerLine l (readingNumber (readMessage (take k m))) (digits (getD m 0 0)) (digits k) dash ≡ replyLine l (reply a m)
 unfolding reply replyLine
 accepted-line l a m k e low high = rw (e, getD-take k m 0 0 low, length-take-le k m high)

@@ -14,7 +14,7 @@ use Rattle.collecting.specs.Stream.{message, unflagged}
 use Rattle.collecting.specs.Claims.{Answered}
 use Rattle.messages.specs.Message.{readMessage, readingNumber}
 use Rattle.messages.specs.Claims.{Retired}
-use Rattle.listing.specs.Line.{digits}
+use Rattle.listing.specs.Line.{digits, dash}
 use Rattle.listing.specs.Listing.{limit, longest, State, start, answerLine, reached, texts, header, lastLine, ending, hasFlag, listing, steady, takenOf}
 use Rattle.listing.specs.Stretches.{Calls, trail}
 
@@ -35,12 +35,13 @@ abbrev pub FlagSeen : Type 0
 FlagSeen =
     (bs text : List ℕ) (s : State) → Calls start bs text s → hasFlag (steady (s .lister)) ≡ ltb (unflagged (take limit bs)) (length (take limit bs))
 
--- the frame of m behind other bytes adds one line: the next number, the offset of its first byte, this answer, its id and its length
+-- the frame of m behind other bytes adds one line: the next number, the offset of its first byte, this answer, its id and its length, no
+-- position
 abbrev pub AddsLine : List ℕ → List ℕ → ℕ → Type 0
 AddsLine before m answer =
     texts start (before ++ frameOf m)
     ≡ texts start (before ++ (flag ∷ []))
-    ++ answerLine (reached start (before ++ (flag ∷ [])) .lister) answer (digits (getD m 0 0)) (digits (length m))
+    ++ answerLine (reached start (before ++ (flag ∷ [])) .lister) answer (digits (getD m 0 0)) (digits (length m)) dash
 
 -- whatever stood before it, the frame of a message of 1 to 436 bytes is listed with what reading the message answers
 abbrev pub FramesListed : Type 0
@@ -51,4 +52,4 @@ FramesListed = (before m : List ℕ) → 1 ≤ length m → length m ≤ 436 →
 abbrev pub RetiredFrames : Type 0
 RetiredFrames =
     (before m : List ℕ) (room : ℕ) → Retired m → length m ≤ 436 → length (frameOf m) ≤ room
-    → (framing m room ≡ Bytes (length (frameOf m))) × Answered before (m ++ lowFirst (fcs m)) (message m) × AddsLine before m 17
+    → (framing m room ≡ Bytes (length (frameOf m))) × Answered before (m ++ lowFirst (fcs m)) (λ at. message m) × AddsLine before m 17

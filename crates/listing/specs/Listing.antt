@@ -21,9 +21,9 @@ use Rattle.listing.specs.Line.{Field, digits, dash, line}
 abbrev pub limit : ℕ
 limit = 4294967295
 
--- a line has at most so many bytes: five fields, each of at most ten bytes and the byte behind it
+-- a line has at most so many bytes: six fields, each of at most ten bytes and the byte behind it
 abbrev pub longest : ℕ
-longest = 55
+longest = 66
 
 -- the lister, and the room that is lent to collecting
 pub record State : Type 0 where
@@ -43,15 +43,16 @@ opening = record { control = fresh .control; taken = 0; lines = 0; lead = 0; aft
 unfoldable pub start : State
 start = state opening (fresh .room)
 
--- the line of an answer: its number, the offset of the first byte after the opening flag, the answer, the id and the message's length
-unfoldable pub answerLine : Lister → ℕ → Field → Field → List ℕ
-answerLine l answer id len = line (digits (l .lines + 1) ∷ digits (l .after) ∷ digits answer ∷ id ∷ len ∷ [])
+-- the line of an answer: its number, the offset of the first byte after the opening flag, the answer, the id and the message's length, the
+-- position
+unfoldable pub answerLine : Lister → ℕ → Field → Field → Field → List ℕ
+answerLine l answer id len pos = line (digits (l .lines + 1) ∷ digits (l .after) ∷ digits answer ∷ id ∷ len ∷ pos ∷ [])
 
--- the answer is that of collecting, or of reading if collecting gave 0; nothing between two flags has no line
+-- the answer is that of collecting, with its position, or of reading if collecting gave 0; nothing between two flags has no line
 unfoldable pub replyLine : Lister → Reply → List ℕ
 replyLine l nothing = []
-replyLine l (message m) = answerLine l (readingNumber (readMessage m)) (digits (getD m 0 0)) (digits (length m))
-replyLine l (refused n) = answerLine l n dash dash
+replyLine l (message m) = answerLine l (readingNumber (readMessage m)) (digits (getD m 0 0)) (digits (length m)) dash
+replyLine l (refused n at) = answerLine l n dash dash (digits at)
 
 -- what a byte adds to the text
 unfoldable pub textOf : State → ℕ → List ℕ
@@ -90,9 +91,9 @@ unfoldable pub texts : State → List ℕ → List ℕ
 texts s [] = []
 texts s (b ∷ bs) = textOf s b ++ texts (advanced s b) bs
 
--- "n at ans id len"
+-- "n at ans id len pos"
 unfoldable pub header : List ℕ
-header = 110 ∷ 32 ∷ 97 ∷ 116 ∷ 32 ∷ 97 ∷ 110 ∷ 115 ∷ 32 ∷ 105 ∷ 100 ∷ 32 ∷ 108 ∷ 101 ∷ 110 ∷ 10 ∷ []
+header = 110 ∷ 32 ∷ 97 ∷ 116 ∷ 32 ∷ 97 ∷ 110 ∷ 115 ∷ 32 ∷ 105 ∷ 100 ∷ 32 ∷ 108 ∷ 101 ∷ 110 ∷ 32 ∷ 112 ∷ 111 ∷ 115 ∷ 10 ∷ []
 
 -- "end", the bytes before the first flag, and those after the last one
 unfoldable pub lastLine : ℕ → ℕ → List ℕ

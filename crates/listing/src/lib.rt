@@ -1,6 +1,6 @@
 // The listing of a byte stream as text, a stretch of input at a time (RULES 'Listing').
 ghost use mathlib.Core.Path.{_≡_};
-ghost use mathlib.Core.Bool.{cond};
+ghost use mathlib.Core.Bool.{cond, not};
 ghost use mathlib.Core.List.{_++_, _∷_, []};
 ghost use Prim.Native.Nat.{_+_, _-_, _≤_, _<_, min};
 ghost use lib.ListN.{length, take};
@@ -19,7 +19,7 @@ use message_types::Reading;
 pub const LIMIT: u64 = 4294967295;
 
 // A line has at most so many bytes.
-pub const LONGEST: usize = 55;
+pub const LONGEST: usize = 66;
 
 // What is kept from one stretch to the next, beside collecting's room.
 pub struct Lister {
@@ -53,7 +53,7 @@ struct Advanced {
 }
 
 // The header line.
-pub fn heading() -> [u8; 16]
+pub fn heading() -> [u8; 20]
     ensures { λ r. ⌜ r ≡ header ⌝ }
 {
     [
@@ -72,6 +72,10 @@ pub fn heading() -> [u8; 16]
         b'l',
         b'e',
         b'n',
+        b' ',
+        b'p',
+        b'o',
+        b's',
         b'\n',
     ]
 }
@@ -276,8 +280,10 @@ fn put_reply(out: &mut [u8], at: usize, l: Lister, answer: Answer, message: &[u8
 {
     match answer {
         Answer::None => at,
-        Answer::Accepted(k) => put_line(out, at, l, read_number(message, k), true, message[0], k),
-        Answer::Refused(n) => put_line(out, at, l, n, false, 0, 0),
+        Answer::Accepted(k) => {
+            put_line(out, at, l, read_number(message, k), true, message[0], k, 0)
+        }
+        Answer::Refused(n, position) => put_line(out, at, l, n, false, 0, 0, position),
     }
 }
 
@@ -298,7 +304,7 @@ fn number_of(reading: Reading) -> u8
     }
 }
 
-// Writes a line, field by field.
+// Writes a line, field by field: id and length of a message, or the position of a fault.
 fn put_line(
     out: &mut [u8],
     at: usize,
@@ -307,16 +313,18 @@ fn put_line(
     shown: bool,
     id: u8,
     len: usize,
+    position: usize,
 ) -> usize
-    requires { ⌜ Sane l × (l .taken < limit) × (len ≤ 436) × (at + longest ≤ length (now out)) ⌝ }
-    ensures { λ r. ⌜ Stored (now (out .entry)) at (answerLine l answer (shownAs shown id) (shownAs shown len)) r (now (out .exit)) ⌝ }
+    requires { ⌜ Sane l × (l .taken < limit) × (len ≤ 436) × (position ≤ 878) × (at + longest ≤ length (now out)) ⌝ }
+    ensures { λ r. ⌜ Stored (now (out .entry)) at (answerLine l answer (shownAs shown id) (shownAs shown len) (shownAs (not shown) position)) r (now (out .exit)) ⌝ }
     ensures { λ r. ⌜ r ≤ at + longest ⌝ }
 {
     let p = put_field(out, at, true, l.lines + 1, b' ');
     let q = put_field(out, p, true, l.after, b' ');
     let r = put_field(out, q, true, answer as u64, b' ');
     let s = put_field(out, r, shown, id as u64, b' ');
-    put_field(out, s, shown, len as u64, b'\n')
+    let t = put_field(out, s, shown, len as u64, b' ');
+    put_field(out, t, !shown, position as u64, b'\n')
 }
 
 // Writes n in decimal, or a dash in its place, and a byte behind it.

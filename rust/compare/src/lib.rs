@@ -1,7 +1,9 @@
 //! The proved library held against the reference: what both sides' values are to
-//! each other, the collecting that is there only to be measured, and clocks.
+//! each other, both fed the same, the collecting that is there only to be measured,
+//! and clocks.
 
 pub mod clock;
+pub mod collecting;
 pub mod messages;
 
 extern "C" {

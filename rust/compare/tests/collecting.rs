@@ -1,120 +1,32 @@
 //! The proved library and the reference collect the same from any stream.
 
-use std::hint::black_box;
-
 use compare::answers_by_value;
-use gdl90::raw::{self, FeedAnswer, FeedControl};
-use gdl90::{Collector, Error};
+use compare::collecting::{
+    any_bytes, made_up_control, next_piece, random_room, state, without_flags, Both, Caller,
+};
+use gdl90::raw::{FeedAnswer, FeedControl};
+use gdl90::{Collector, Refusal};
 use reference::collecting::{answers, Answer, Kept, ROOM};
-use reference::framing::{FLAG, MESSAGE_MAX};
+use reference::framing::{ESCAPE, FLAG, MESSAGE_MAX};
 use reference::recording::{mixed, tiny};
+use reference::state::{phase, STUFFED_MAX};
+use reference::vectors::HEARTBEAT;
 use reference::xorshift::Xorshift;
 
 /// Bytes of all streams compared, unless the environment variable
 /// GDL90_STREAM_BYTES says another number.
 const STREAM_BYTES: usize = 1_000_000;
 const MADE_UP_STATES: usize = 20_000;
-const LAST_PHASE: u8 = 4;
-/// Bytes on each side of lent memory that no call may touch.
-const GUARD: [u8; 16] = [0xA5; 16];
-
-#[repr(C)]
-struct Guarded<const N: usize> {
-    before: [u8; 16],
-    lent: [u8; N],
-    after: [u8; 16],
-}
-
-impl<const N: usize> Guarded<N> {
-    fn new(lent: [u8; N]) -> Self {
-        let (before, after) = (GUARD, GUARD);
-        Self {
-            before,
-            lent,
-            after,
-        }
-    }
-
-    /// The black box: the compiler may hold that a call leaves them as they are.
-    fn assert_guards(&self) {
-        let seen = black_box(self);
-        assert_eq!((seen.before, seen.after), (GUARD, GUARD));
-    }
-}
-
-/// What a caller of the C function holds.
-struct Caller {
-    control: FeedControl,
-    room: Guarded<ROOM>,
-    message: Guarded<MESSAGE_MAX>,
-    /// What the message's memory holds before a call.
-    fill: u8,
-}
-
-impl Caller {
-    fn new(control: FeedControl, room: [u8; ROOM]) -> Self {
-        Self {
-            control,
-            room: Guarded::new(room),
-            message: Guarded::new([0; MESSAGE_MAX]),
-            fill: 1,
-        }
-    }
-
-    fn fresh() -> Self {
-        Self::new(FeedControl::default(), [0; ROOM])
-    }
-
-    /// Feeds and checks what holds of every call, whatever the state.
-    fn feed(&mut self, bytes: &[u8]) -> FeedAnswer {
-        // It varies, so that it cannot hide behind a byte of the message, and
-        // stays odd, so that it is never zero.
-        self.fill = self.fill.wrapping_add(2);
-        self.message.lent.fill(self.fill);
-        let fed = raw::feed(
-            self.control,
-            &mut self.room.lent,
-            &mut self.message.lent,
-            bytes,
-        );
-        self.control = fed.control;
-        self.room.assert_guards();
-        self.message.assert_guards();
-        assert_taken(&fed, bytes);
-        self.assert_message(&fed);
-        fed
-    }
-
-    /// On 0 zeros stand behind the message; every other call leaves it
-    /// (RULES 'Collecting').
-    fn assert_message(&self, fed: &FeedAnswer) {
-        if fed.answered && fed.number == 0 {
-            assert!((1..=MESSAGE_MAX).contains(&fed.length), "{fed:?}");
-            let behind = &self.message.lent[fed.length..];
-            assert!(behind.iter().all(|&byte| byte == 0), "{fed:?}: {behind:?}");
-        } else {
-            assert_eq!(fed.length, 0, "{fed:?}");
-            assert!(self.message.lent == [self.fill; MESSAGE_MAX], "{fed:?}");
-        }
-    }
-}
-
-/// Only a flag is answered, and all before it and the flag are taken.
-fn assert_taken(fed: &FeedAnswer, bytes: &[u8]) {
-    if fed.answered {
-        assert_eq!(bytes[..fed.taken].last(), Some(&FLAG), "{fed:?}");
-        assert!(fed.number <= 5, "{fed:?}");
-    } else {
-        assert_eq!((fed.taken, fed.number), (bytes.len(), 0), "{fed:?}");
-    }
-}
 
 /// The answer in the reference's terms.
 fn answer<'a>(fed: &FeedAnswer, message: &'a [u8; MESSAGE_MAX]) -> Answer<'a> {
     match (fed.answered, fed.number) {
         (false, _) => Answer::None,
         (true, 0) => Answer::Message(&message[..fed.length]),
-        (true, number) => Answer::Refused(number),
+        (true, number) => Answer::Refused {
+            number,
+            position: fed.position,
+        },
     }
 }
 
@@ -194,11 +106,82 @@ fn empty_stream_gives_nothing() {
     assert_eq!(fed.control, FeedControl::default());
 }
 
+/// In pieces; what `Both` compares, it compares after each.
+fn feed_all(both: &mut Both, bytes: &[u8], random: &mut Xorshift) {
+    let mut left = bytes;
+    while !left.is_empty() {
+        let fed = both.feed(next_piece(left, random));
+        left = &left[fed.taken..];
+    }
+}
+
+#[test]
+fn states_agree() {
+    let mut random = Xorshift::new(0x57A7_E500);
+    let mut done = 0;
+    while done < stream_bytes() {
+        let stream = any_mixed(&mut random);
+        feed_all(&mut Both::fresh(), &stream, &mut random);
+        done += stream.len();
+    }
+}
+
+/// Number and position for these bytes between two flags, whole and byte by byte.
+fn refused(parts: &[&[u8]]) -> (u8, usize) {
+    let stream = [&[FLAG], &parts.concat()[..], &[FLAG]].concat();
+    let whole = proved_answers(&stream, || stream.len());
+    assert_eq!(whole, proved_answers(&stream, || 1), "{stream:02X?}");
+    let [Kept {
+        number, position, ..
+    }] = whole[..]
+    else {
+        panic!("{whole:?} to {stream:02X?}");
+    };
+    (number, position)
+}
+
+/// With 1 and 3 up to and with the byte that is met, with 2, 4 and 5 up to the
+/// flag.
+#[test]
+fn known_positions() {
+    assert_eq!(refused(&[&HEARTBEAT, &[0xB3, 0x8B]]), (0, 0));
+    assert_eq!(refused(&[&[ESCAPE, 0x00]]), (1, 2));
+    assert_eq!(refused(&[&[0x07, ESCAPE, 0x5E, ESCAPE, 0x00]]), (1, 5));
+    assert_eq!(refused(&[&[ESCAPE]]), (2, 1));
+    assert_eq!(refused(&[&[0x07, ESCAPE, 0x5D, ESCAPE]]), (2, 4));
+    assert_eq!(refused(&[&[0x07]]), (4, 1));
+    assert_eq!(refused(&[&[ESCAPE, 0x5D, ESCAPE, 0x5E]]), (4, 4));
+    assert_eq!(refused(&[&HEARTBEAT, &[0xB3, 0x8A]]), (5, 9));
+    assert_eq!(refused(&[&[ESCAPE, 0x5E, 0x00, 0x00]]), (5, 4));
+}
+
+#[test]
+fn known_positions_behind_a_full_room() {
+    let (plain, escaped) = ([0x11; ROOM], [ESCAPE, 0x5E].repeat(ROOM));
+    let behind: [(&[u8], u8, usize); 7] = [
+        (&[], 5, 0),
+        (&[0x11], 3, 1),
+        (&[ESCAPE, 0x5E], 3, 2),
+        (&[ESCAPE, 0x00], 1, 2),
+        (&[ESCAPE], 2, 1),
+        // What comes behind a fault moves no position.
+        (&[0x11, ESCAPE, 0x00, 0x11, ESCAPE], 3, 1),
+        (&[ESCAPE, 0x00, 0x11, ESCAPE], 1, 2),
+    ];
+    for (bytes, number, more) in behind {
+        assert_eq!(refused(&[&plain, bytes]), (number, 438 + more));
+        assert_eq!(refused(&[&escaped, bytes]), (number, 876 + more));
+    }
+}
+
 /// An answer of the safe collector as the reference keeps it.
-fn kept(at: usize, answer: Result<&[u8], Error>) -> Option<Kept> {
+fn kept(at: usize, answer: Result<&[u8], Refusal>) -> Option<Kept> {
     let answer = match answer {
         Ok(message) => Answer::Message(message),
-        Err(error) => Answer::Refused(error.number()),
+        Err(refusal) => Answer::Refused {
+            number: refusal.error.number(),
+            position: refusal.position,
+        },
     };
     Kept::new(at, answer)
 }
@@ -236,7 +219,7 @@ fn iterators_over_slices_agree() {
             while let Some(answer) = answers.next() {
                 let at = end - answers.rest().len() - 1;
                 let answer = answer.as_ref().map(|message| &message[..]);
-                all.extend(kept(at, answer.map_err(|error| *error)));
+                all.extend(kept(at, answer.map_err(|refusal| *refusal)));
             }
             assert!(answers.next().is_none(), "an answer behind the last");
             assert!(answers.rest().is_empty());
@@ -260,7 +243,7 @@ fn dropped_iterators_leave_the_rest() {
             rest = answers.rest();
             let at = stream.len() - rest.len() - 1;
             let answer = answer.as_ref().map(|answer| answer.as_deref());
-            all.extend(answer.and_then(|answer| kept(at, answer.map_err(|error| *error))));
+            all.extend(answer.and_then(|answer| kept(at, answer.map_err(|refusal| *refusal))));
         }
         assert_eq!(all, answers(&stream), "{stream:02X?}");
     }
@@ -287,66 +270,68 @@ fn answers_leave_the_state_of_one_flag() {
     }
 }
 
-/// A state that no stream need lead to.
-fn made_up_control(random: &mut Xorshift) -> FeedControl {
-    let count = match random.below(8) {
-        0 => ROOM,
-        1 => ROOM + 1,
-        2 => usize::MAX,
-        3 => random.next_u64() as usize,
-        _ => random.below(ROOM + 1),
-    };
-    let phases = [usize::from(LAST_PHASE) + 2, 256][random.below(2)];
-    let phase = random.below(phases) as u8;
-    FeedControl { count, phase }
-}
-
-fn random_room(random: &mut Xorshift) -> [u8; ROOM] {
-    let room = random.message_with_escapes(ROOM, 1);
-    room.try_into().expect("as long as the room")
-}
-
-fn any_bytes(random: &mut Xorshift) -> Vec<u8> {
-    let length = random.below(600);
-    match random.below(3) {
-        0 => random.message(length),
-        1 => tiny(random),
-        _ => mixed(random, length),
-    }
-}
-
-/// The next piece of the bytes, at most as many as are left.
-fn next_piece<'a>(bytes: &'a [u8], random: &mut Xorshift) -> &'a [u8] {
-    &bytes[..bytes.len().min(random.below(200))]
-}
-
+/// From any count, stuffed bytes, phase and room on.
 #[test]
-fn made_up_states_do_no_harm() {
+fn made_up_states_agree() {
     let mut random = Xorshift::new(0x0BAD_57A7);
     for _ in 0..MADE_UP_STATES {
         let control = made_up_control(&mut random);
-        let mut caller = Caller::new(control, random_room(&mut random));
+        let mut both = Both::new(control, random_room(&mut random));
         let bytes = any_bytes(&mut random);
-        let mut left = &bytes[..];
-        while !left.is_empty() {
-            let fed = caller.feed(next_piece(left, &mut random));
-            left = &left[fed.taken..];
-        }
+        feed_all(&mut both, &bytes, &mut random);
     }
 }
 
-/// A count over 438 or a phase over 4 is the fresh state, its room zero.
+/// The 879th stuffed byte is taken, and the state that it leaves is taken as fresh
+/// from the next byte on, in whatever pieces they come.
+#[test]
+fn made_up_states_pass_878_within_a_run() {
+    let mut random = Xorshift::new(0x0878_0879);
+    let (mut passed, mut faults) = (0, 0);
+    for _ in 0..MADE_UP_STATES {
+        let control = FeedControl {
+            count: random.below(ROOM + 1),
+            stuffed: STUFFED_MAX - random.below(6),
+            phase: [phase::OPEN, phase::ESCAPE][random.below(2)],
+        };
+        let mut both = Both::new(control, random_room(&mut random));
+        // 0x5D goes on behind an escape, 0x00 is a fault there.
+        let mut bytes = vec![[0x5D, 0x00][random.below(2)]];
+        bytes.extend(without_flags(&mut random, 14));
+        bytes.push(FLAG);
+        bytes.extend(tiny(&mut random));
+        let bound = [2, 4, 200][random.below(3)];
+        let mut left = &bytes[..];
+        while !left.is_empty() {
+            let piece = left.len().min(random.below(bound));
+            let fed = both.feed(&left[..piece]);
+            left = &left[fed.taken..];
+            if fed.control.stuffed > STUFFED_MAX {
+                passed += 1;
+                faults += usize::from(fed.control.phase > phase::ESCAPE);
+            }
+        }
+    }
+    assert!(passed > 1_000 && faults > 100, "{passed} {faults}");
+}
+
+/// A count over 438, more than 878 stuffed bytes or a phase over 4 is the fresh
+/// state, its room zero.
 #[test]
 fn states_out_of_range_are_fresh() {
     let mut random = Xorshift::new(0x0F4E_5400);
+    let mut compared = 0;
     for _ in 0..MADE_UP_STATES {
         let control = made_up_control(&mut random);
-        if control.count > ROOM || control.phase > LAST_PHASE {
-            let mut caller = Caller::new(control, random_room(&mut random));
+        let room = random_room(&mut random);
+        if state(control, room).is_out_of_range() {
+            let mut caller = Caller::new(control, room);
             let bytes = any_bytes(&mut random);
             assert_as_fresh(&mut caller, &bytes, &mut random);
+            compared += 1;
         }
     }
+    assert!(compared > MADE_UP_STATES / 4, "{compared}");
 }
 
 fn assert_as_fresh(caller: &mut Caller, bytes: &[u8], random: &mut Xorshift) {

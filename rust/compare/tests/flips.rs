@@ -5,7 +5,7 @@
 use std::collections::BTreeSet;
 use std::ops::Range;
 
-use gdl90::{Collector, Error};
+use gdl90::{Collector, Error, Refusal};
 use reference::fcs::check_sequence;
 use reference::framing::{ESCAPE, FLAG, MESSAGE_MAX};
 use reference::recording::{between_flags, framed, mixed};
@@ -74,7 +74,7 @@ impl Line {
                 assert_eq!(message, &flipped[..flipped.len() - 2], "{flips:02X?}");
                 self.passed.insert(flips.to_vec());
             }
-            Err(error) => assert_eq!(error, Error::CheckSequence, "{flips:02X?}"),
+            Err(refusal) => assert_eq!(refusal, found(&frame), "{flips:02X?}"),
         }
         self.fed += 1;
     }
@@ -279,5 +279,13 @@ fn bytes_before_change_nothing() {
         assert_eq!(line.fed, 2_556);
         let expected = pairs_over_the_border(HEARTBEAT.len());
         assert_eq!(line.passed, expected, "behind {before:02X?}");
+    }
+}
+
+/// The refusal with 5, met with all that stands between the two flags.
+fn found(frame: &[u8]) -> Refusal {
+    Refusal {
+        error: Error::CheckSequence,
+        position: frame.len() - 2,
     }
 }

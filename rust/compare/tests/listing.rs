@@ -162,6 +162,38 @@ fn count_answers(listing: &[u8], answers: &mut [usize; 18]) {
     }
 }
 
+/// A frame that is accepted, and refused ones: the byte behind an escape, an escape
+/// before the flag, the 439th byte escaped and plain, too few, another sequence.
+#[test]
+fn known_positions() {
+    let stream = [
+        &sent(&HEARTBEAT)[..],
+        &[0x07, ESCAPE, 0x5E, ESCAPE, 0x00, 0x07, FLAG],
+        &[0x07, ESCAPE, FLAG],
+        &[ESCAPE, 0x5D].repeat(MESSAGE_MAX + 3),
+        &[0x07, FLAG],
+        &[0x11; MESSAGE_MAX + 4],
+        &[FLAG, ESCAPE, 0x5E, FLAG],
+        &HEARTBEAT,
+        &[0xB3, 0x8A, FLAG],
+    ]
+    .concat();
+    let lines = [
+        "n at ans id len pos",
+        "1 1 0 0 7 -",
+        "2 11 1 - - 5",
+        "3 18 2 - - 2",
+        "4 21 3 - - 878",
+        "5 901 3 - - 439",
+        "6 1342 4 - - 2",
+        "7 1345 5 - - 9",
+        "end 0 0\n",
+    ];
+    let output = proved("positions", &stream);
+    assert_equal("positions", &output, lines.join("\n").as_bytes());
+    assert_equal("positions", &output, &listing(&stream));
+}
+
 /// Every stream of up to four of the bytes that matter to collecting.
 #[test]
 fn short_streams() {
@@ -503,7 +535,7 @@ fn no_byte_over_the_limit_is_listed() {
     let mut expected = Vec::new();
     list(over_the_limit(), &mut expected).expect("memory can be read and written");
     assert_equal("limit", &output, &expected);
-    let lines = "n at ans id len\n1 4294967285 0 0 7\nend 4294967284 0\n";
+    let lines = "n at ans id len pos\n1 4294967285 0 0 7 -\nend 4294967284 0\n";
     assert_equal("limit", &output, lines.as_bytes());
 }
 
@@ -515,6 +547,6 @@ fn no_flag_up_to_the_limit() {
         let zeros = io::repeat(0x00).take(LIMIT);
         send(zeros.chain(&[FLAG; 2][..]), input)
     });
-    let lines = "n at ans id len\nend 4294967295 0\n";
+    let lines = "n at ans id len pos\nend 4294967295 0\n";
     assert_equal("no flag", &output, lines.as_bytes());
 }

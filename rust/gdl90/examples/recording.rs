@@ -1,5 +1,5 @@
 //! Reads a recording and prints each frame in words, refused ones with their
-//! number and the reason:
+//! number, the reason and where they broke:
 //!
 //!     cargo run --manifest-path rust/Cargo.toml --offline -p gdl90 --example recording -- FILE
 //!
@@ -9,7 +9,7 @@ use std::fs::File;
 use std::io::{self, BufWriter, ErrorKind, Read, Write};
 use std::process::ExitCode;
 
-use gdl90::{Collector, Error, Message, Received, Text};
+use gdl90::{Collector, Message, Received, Refusal, Text};
 
 fn main() -> ExitCode {
     let arguments: Vec<_> = std::env::args_os().skip(1).collect();
@@ -64,10 +64,13 @@ fn print(input: &mut dyn Read, name: &str) -> Result<(), String> {
     }
 }
 
-fn print_answer(out: &mut dyn Write, answer: Result<Received, Error>) -> io::Result<()> {
+fn print_answer(out: &mut dyn Write, answer: Result<Received, Refusal>) -> io::Result<()> {
     let received = match answer {
         Ok(received) => received,
-        Err(error) => return writeln!(out, "frame refused with {}: {error}", error.number()),
+        Err(refusal) => {
+            let number = refusal.error.number();
+            return writeln!(out, "frame refused with {number}: {refusal}");
+        }
     };
     match received.message() {
         Ok(Message::Uplink(uplink)) => {

@@ -6,12 +6,13 @@ use std::ops::Deref;
 
 use crate::error::{accepted, Error};
 use crate::raw::{self, FeedControl, MESSAGE_MAX, ROOM};
-use crate::Message;
+use crate::{Message, Tally};
 
 /// Collects messages from a stream of bytes that comes in slices of any length.
 ///
 /// An answer comes with each flag that closes a frame: the message, or why the
-/// frame was refused ([`Error::BadEscape`] to [`Error::CheckSequence`]). A flag
+/// frame was refused ([`Error::BadEscape`] to [`Error::CheckSequence`]) and where
+/// it broke. Each answer is counted in the collector's [`Self::tally`]. A flag
 /// closes what came before it and opens the next frame. Bytes before the first
 /// flag are ignored, and nothing between two flags is no answer. A frame may
 /// start in one slice and end in a later one, so nothing is reset between the
@@ -37,6 +38,7 @@ pub struct Collector {
     control: FeedControl,
     room: [u8; ROOM],
     message: [u8; MESSAGE_MAX],
+    tally: Tally,
 }
 
 const _: () = assert!(
@@ -52,7 +54,58 @@ pub struct Fed<'a> {
     /// The message of the frame that the last of them closed, lent until the
     /// next call, or why it was refused. `None` if no frame was closed: then all
     /// bytes were taken.
-    pub answer: Option<Result<&'a [u8], Error>>,
+    pub answer: Option<Result<&'a [u8], Refusal>>,
+}
+
+/// Why collecting refused a frame, and where the frame broke.
+///
+/// As an [`Error`], which `?` makes of it where one is asked for, it has no
+/// position.
+///
+/// ```
+/// use gdl90::{Collector, Error};
+///
+/// // An escape before a byte that is never escaped.
+/// let stream = [0x7E, 0x02, 0x7D, 0x00, 0x01, 0x7E];
+/// let refusal = Collector::new().answers(&stream).next().unwrap().unwrap_err();
+/// assert_eq!((refusal.error, refusal.position), (Error::BadEscape, 3));
+/// assert_eq!(stream[refusal.position], 0x00);
+/// assert_eq!(
+///     refusal.to_string(),
+///     "an escape stands before a byte that is never escaped, at byte 3"
+/// );
+/// ```
+#[derive(Clone, Copy, Debug, PartialEq, Eq, Hash)]
+pub struct Refusal {
+    /// [`Error::BadEscape`], [`Error::EscapeBeforeFlag`] or
+    /// [`Error::FrameTooLong`], whichever the bytes meet first; else
+    /// [`Error::FrameTooShort`], then [`Error::CheckSequence`].
+    pub error: Error,
+    /// How many bytes had been taken since the opening flag when the fault was
+    /// met, 1 to 878, as they came: an escape and the byte behind it are two. For
+    /// a bad escape and a frame too long the last of them is the one that is
+    /// wrong; for the others they are all before the closing flag. It is the same
+    /// however the stream is cut into slices.
+    pub position: usize,
+}
+
+impl From<Refusal> for Error {
+    #[inline]
+    fn from(refusal: Refusal) -> Self {
+        refusal.error
+    }
+}
+
+impl fmt::Display for Refusal {
+    fn fmt(&self, f: &mut fmt::Formatter<'_>) -> fmt::Result {
+        write!(f, "{}, at byte {}", self.error, self.position)
+    }
+}
+
+impl std::error::Error for Refusal {
+    fn source(&self) -> Option<&(dyn std::error::Error + 'static)> {
+        Some(&self.error)
+    }
 }
 
 impl Collector {
@@ -62,6 +115,7 @@ impl Collector {
             control: FeedControl::default(),
             room: [0; ROOM],
             message: [0; MESSAGE_MAX],
+            tally: Tally::default(),
         }
     }
 
@@ -83,10 +137,20 @@ impl Collector {
     /// ```
     #[inline]
     pub fn feed(&mut self, bytes: &[u8]) -> Fed<'_> {
-        let fed = raw::feed(self.control, &mut self.room, &mut self.message, bytes);
+        let fed = raw::feed_tallied(
+            self.control,
+            &mut self.room,
+            &mut self.message,
+            bytes,
+            &mut self.tally,
+        );
         self.control = fed.control;
         let message = &self.message[..fed.length];
-        let answer = fed.answered.then(|| accepted(fed.number, message));
+        let position = fed.position;
+        let refusal = |error| Refusal { error, position };
+        let answer = fed
+            .answered
+            .then(|| accepted(fed.number, message).map_err(refusal));
         Fed {
             taken: fed.taken,
             answer,
@@ -106,6 +170,19 @@ impl Collector {
             rest: bytes,
         }
     }
+
+    /// How often each answer was given since the collector was made, or since
+    /// [`Self::reset_tally`].
+    #[inline]
+    pub fn tally(&self) -> Tally {
+        self.tally
+    }
+
+    /// Zeroes the tally. The stream goes on: a frame that is open stays open.
+    #[inline]
+    pub fn reset_tally(&mut self) {
+        self.tally = Tally::default();
+    }
 }
 
 impl Default for Collector {
@@ -118,6 +195,7 @@ impl fmt::Debug for Collector {
     fn fmt(&self, f: &mut fmt::Formatter<'_>) -> fmt::Result {
         f.debug_struct("Collector")
             .field("control", &self.control)
+            .field("tally", &self.tally)
             .finish_non_exhaustive()
     }
 }
@@ -138,7 +216,7 @@ impl<'b> Answers<'_, 'b> {
 }
 
 impl Iterator for Answers<'_, '_> {
-    type Item = Result<Received, Error>;
+    type Item = Result<Received, Refusal>;
 
     #[inline]
     fn next(&mut self) -> Option<Self::Item> {
@@ -146,7 +224,7 @@ impl Iterator for Answers<'_, '_> {
         self.rest = &self.rest[fed.taken..];
         let length = match fed.answer? {
             Ok(message) => message.len(),
-            Err(error) => return Some(Err(error)),
+            Err(refusal) => return Some(Err(refusal)),
         };
         Some(Ok(Received {
             bytes: self.collector.message,

@@ -4,7 +4,8 @@ use std::fmt;
 
 /// Why the library refused, one case for each number (RULES 'Numbers').
 ///
-/// A refusal leaves memory that was lent for output as it was.
+/// A refusal leaves memory that was lent for output as it was. Collecting's, the
+/// first five, come with a position, as a [`Refusal`](crate::Refusal).
 ///
 /// The numbers are fixed and none is used twice, but later ones will come:
 /// match with a last arm `_`. 12 is not used, and will not be.

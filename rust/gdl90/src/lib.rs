@@ -20,24 +20,29 @@
 //! for answer in collector.answers(&stream) {
 //!     match answer {
 //!         Ok(received) => lines.push(received.message()?.to_string()),
-//!         Err(error) => lines.push(format!("refused with {}: {error}", error.number())),
+//!         Err(refusal) => {
+//!             let number = refusal.error.number();
+//!             lines.push(format!("refused with {number}: {refusal}"));
+//!         }
 //!     }
 //! }
 //! assert_eq!(lines, [
 //!     "heartbeat at 14:51:07 UTC, status 0x81 0x41, \
 //!      received in the last second: 1 uplinks, 2 basic and long",
-//!     "refused with 5: the check sequence differs",
+//!     "refused with 5: the check sequence differs, at byte 9",
 //! ]);
 //! # Ok::<(), gdl90::Error>(())
 //! ```
 //!
-//! - [`Collector`] takes a stream in slices and answers with messages.
+//! - [`Collector`] takes a stream in slices and answers with messages; its
+//!   [`Tally`] says how often it gave each answer.
 //! - [`Message`] reads and writes a message as a typed value; [`frame`] and
 //!   [`framed`] make a frame of its bytes.
 //! - [`information_frames`] and [`add_information_frame`] go into an uplink's
 //!   payload, and [`Text`] reads and writes the weather text of a frame.
-//! - [`Error`] says why something was refused. Nothing panics, whatever the bytes
-//!   and values, if archive and crate are of one version.
+//! - [`Error`] says why something was refused, and [`Refusal`] also where a frame
+//!   broke. Nothing panics, whatever the bytes and values, if archive and crate are
+//!   of one version.
 //!
 //! 001 is the public GDL 90 specification (560-1058-00 Rev A). RULES is the
 //! library's own docs/RULES.md, every rule that it keeps; its heading 'Numbers'
@@ -54,10 +59,11 @@ mod information_frames;
 mod message;
 #[allow(unsafe_code)]
 pub mod raw;
+mod tally;
 mod text;
 mod units;
 
-pub use collecting::{Answers, Collector, Fed, Received};
+pub use collecting::{Answers, Collector, Fed, Received, Refusal};
 pub use error::Error;
 pub use framing::{check_sequence, frame, framed, FRAME_MAX, MESSAGE_MAX};
 pub use information_frames::{
@@ -68,5 +74,6 @@ pub use message::{
     CallSign, Climb, GeometricAltitude, Heartbeat, HeightAboveTerrain, Initialization, Merit,
     Message, Report, Speed, TrackKind, Uplink,
 };
+pub use tally::Tally;
 pub use text::{Text, LONGEST_TEXT};
 pub use units::{Degrees, GeometricSteps, Position, PressureSteps, TerrainFeet};

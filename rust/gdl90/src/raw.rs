@@ -2,9 +2,11 @@
 //! function with slices for pointers and lengths. The units of altitude are
 //! [`PressureSteps`], [`GeometricSteps`] and [`TerrainFeet`] here too.
 //!
-//! Every function takes every input and ends. A refusal leaves lent memory as it
-//! was; only [`feed`] goes on, as the room is part of its state. The rest of this
-//! crate is made of these functions, and most programs need none of them.
+//! Every function takes every input and ends. A refusal gives back zeros beside
+//! its number and leaves lent memory as it was; only [`feed`] and [`feed_tallied`]
+//! go on, as the room is part of their state, and say where the frame broke; the
+//! second counts it too. The rest of this crate is made of these functions, and
+//! most programs need none of them.
 
 mod values;
 
@@ -13,6 +15,8 @@ pub use values::{
     Initialization, PayloadListAnswer, PayloadNthAnswer, Read, Report, TextAnswer, Uplink,
     WriteAnswer, BELOW, NONE, OVER, PLAIN,
 };
+
+pub use crate::tally::Tally;
 
 use crate::units::{GeometricSteps, PressureSteps, TerrainFeet};
 
@@ -35,6 +39,14 @@ extern "C" {
         message: *mut [u8; MESSAGE_MAX],
         bytes: *const u8,
         bytes_len: usize,
+    ) -> FeedAnswer;
+    fn gdl90_feed_tallied(
+        control: FeedControl,
+        room: *mut [u8; ROOM],
+        message: *mut [u8; MESSAGE_MAX],
+        bytes: *const u8,
+        bytes_len: usize,
+        tally: *mut Tally,
     ) -> FeedAnswer;
     fn gdl90_write_uplink(
         value: Uplink,
@@ -89,9 +101,9 @@ pub fn frame(message: &[u8], out: &mut [u8]) -> FrameAnswer {
     unsafe { gdl90_frame(message.as_ptr(), message.len(), out.as_mut_ptr(), out.len()) }
 }
 
-/// Takes bytes until one closes a frame or there are no more. No state is
-/// unsafe: one that cannot be is taken as the fresh one
-/// (RULES 'Structs for C').
+/// Takes bytes until one closes a frame or there are no more: of 1, 2 and 3 the
+/// one that they meet first, then 4, 5. No state is unsafe: one that cannot be is
+/// taken as the fresh one (RULES 'Structs for C').
 #[inline]
 pub fn feed(
     control: FeedControl,
@@ -103,6 +115,22 @@ pub fn feed(
     // function takes, `bytes` is one live slice. The two are borrowed mutably, so
     // none overlaps another; none is kept.
     unsafe { gdl90_feed(control, room, message, bytes.as_ptr(), bytes.len()) }
+}
+
+/// [`feed`], and the answer, where there is one, is counted: its count goes up by
+/// one, or holds at [`u32::MAX`].
+#[inline]
+pub fn feed_tallied(
+    control: FeedControl,
+    room: &mut [u8; ROOM],
+    message: &mut [u8; MESSAGE_MAX],
+    bytes: &[u8],
+    tally: &mut Tally,
+) -> FeedAnswer {
+    let (from, length) = (bytes.as_ptr(), bytes.len());
+    // SAFETY: as in `feed`. `tally` is a live struct, laid out as the function has
+    // it and borrowed mutably, so it overlaps none of the others; it is not kept.
+    unsafe { gdl90_feed_tallied(control, room, message, from, length, tally) }
 }
 
 /// Declares C functions that read one kind of message each, and wraps them.

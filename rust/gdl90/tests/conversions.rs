@@ -4,7 +4,8 @@ use std::fmt::Debug;
 
 use gdl90::raw::{self, BELOW, NONE, OVER};
 use gdl90::{
-    CallSign, Collector, Error, GeometricAltitude, Heartbeat, HeightAboveTerrain, Message, Report,
+    CallSign, Collector, Error, GeometricAltitude, Heartbeat, HeightAboveTerrain, Message, Refusal,
+    Report,
 };
 
 /// Marks up to the last that a field has become values; all others are 8
@@ -103,7 +104,7 @@ fn received_messages() {
     let (first, second) = ([2, 0, 1], [9, 1, 0]);
     let stream = [first, second].map(|message| gdl90::framed(&message).unwrap());
     let mut collector = Collector::new();
-    let both: Result<Vec<_>, Error> = collector.answers(&stream.concat()).collect();
+    let both: Result<Vec<_>, Refusal> = collector.answers(&stream.concat()).collect();
     let both = both.unwrap();
     assert_eq!((&*both[0], both[1].as_ref()), (&first[..], &second[..]));
     assert_ne!(both[0], both[1]);

@@ -54,8 +54,9 @@ macro_rules! layout {
 fn frames() -> Vec<String> {
     layout! {
         gdl90_frame_answer: FrameAnswer { number, length }
-        gdl90_feed_control: FeedControl { count, phase }
-        gdl90_feed_answer: FeedAnswer { control, taken, answered, number, length }
+        gdl90_feed_control: FeedControl { count, stuffed, phase }
+        gdl90_feed_answer: FeedAnswer { control, taken, answered, number, length, position }
+        gdl90_tally: Tally { counts }
     }
 }
 

@@ -63,8 +63,8 @@ fn no_bytes_print_nothing() {
 }
 
 /// A line for each answer of the listing that the second implementation made,
-/// with its number where it is a refusal, and the id and length of a message
-/// that was refused.
+/// with its number where it is a refusal, the byte where a frame broke, and the id
+/// and length of a message that was refused.
 #[test]
 fn the_sample_is_printed_as_listed() {
     let listing = read_to_string(root().join("samples/recording.txt")).expect("the listing");
@@ -73,7 +73,7 @@ fn the_sample_is_printed_as_listed() {
     let listed = listing.lines().filter(|line| !line.starts_with(['n', 'e']));
     for listed in listed {
         let line = lines.next().expect("a line");
-        let [n, _, answer, id, length] = listed.split(' ').collect::<Vec<_>>()[..] else {
+        let [n, _, answer, id, length, position] = listed.split(' ').collect::<Vec<_>>()[..] else {
             panic!("no line of an answer: {listed}");
         };
         assert!(line.starts_with(&format!("{n}: ")), "{listed} {line}");
@@ -82,6 +82,8 @@ fn the_sample_is_printed_as_listed() {
             (_, "-") => {
                 let refused = format!("frame refused with {answer}:");
                 assert!(line.contains(&refused), "{listed} {line}");
+                let place = format!(", at byte {position}");
+                assert!(line.ends_with(&place), "{listed} {line}");
             }
             _ => {
                 let refused = format!("message refused with {answer}:");

@@ -22,8 +22,9 @@ pub enum Answer<'a> {
     None,
     /// Accepted: the message without its check sequence.
     Message(&'a [u8]),
-    /// Refused with this number.
-    Refused(u8),
+    /// Refused with this number. The position is how many bytes since the opening
+    /// flag, escapes counted, had been taken when the fault was met.
+    Refused { number: u8, position: usize },
 }
 
 #[derive(Clone, Copy)]
@@ -39,6 +40,8 @@ enum Phase {
 pub struct Collector {
     room: [u8; ROOM],
     count: usize,
+    /// Bytes since the opening flag as they came, up to a fault that was met.
+    stuffed: usize,
     phase: Phase,
 }
 
@@ -47,6 +50,7 @@ impl Collector {
         Self {
             room: [0; ROOM],
             count: 0,
+            stuffed: 0,
             phase: Phase::LeadIn,
         }
     }
@@ -58,7 +62,7 @@ impl Collector {
             return self.close();
         }
         match (self.phase, byte) {
-            (Phase::LeadIn | Phase::Fault(_), _) => {}
+            (Phase::LeadIn | Phase::Fault(_), _) => return Answer::None,
             (Phase::Clear, ESCAPE) => self.phase = Phase::Escape,
             (Phase::Clear, _) => self.collect(byte),
             (Phase::Escape, ESCAPED_ESCAPE | ESCAPED_FLAG) => {
@@ -67,6 +71,7 @@ impl Collector {
             }
             (Phase::Escape, _) => self.phase = Phase::Fault(BAD_ESCAPE),
         }
+        self.stuffed += 1;
         Answer::None
     }
 
@@ -123,14 +128,16 @@ impl Collector {
         bytes.len() - rest.len()
     }
 
+    /// Of bytes that do not fit, the one behind the last that does is the fault.
     fn collect_all(&mut self, bytes: &[u8]) {
-        let end = self.count + bytes.len();
-        match self.room.get_mut(self.count..end) {
-            Some(places) => {
-                places.copy_from_slice(bytes);
-                self.count = end;
-            }
-            None => self.phase = Phase::Fault(TOO_LONG),
+        let places = &mut self.room[self.count..];
+        if let Some(places) = places.get_mut(..bytes.len()) {
+            places.copy_from_slice(bytes);
+            self.count += bytes.len();
+            self.stuffed += bytes.len();
+        } else {
+            self.stuffed += places.len() + 1;
+            self.phase = Phase::Fault(TOO_LONG);
         }
     }
 
@@ -149,11 +156,13 @@ impl Collector {
     fn close(&mut self) -> Answer<'_> {
         let phase = std::mem::replace(&mut self.phase, Phase::Clear);
         let count = std::mem::take(&mut self.count);
+        let position = std::mem::take(&mut self.stuffed);
+        let refused = |number| Answer::Refused { number, position };
         match phase {
             Phase::LeadIn => Answer::None,
-            Phase::Clear => check(&self.room[..count]),
-            Phase::Escape => Answer::Refused(ESCAPE_BEFORE_FLAG),
-            Phase::Fault(number) => Answer::Refused(number),
+            Phase::Clear => check(&self.room[..count]).unwrap_or_else(refused),
+            Phase::Escape => refused(ESCAPE_BEFORE_FLAG),
+            Phase::Fault(number) => refused(number),
         }
     }
 }
@@ -165,15 +174,15 @@ impl Default for Collector {
 }
 
 /// Checks 4, then 5; nothing between two flags is no answer.
-fn check(unstuffed: &[u8]) -> Answer<'_> {
+fn check(unstuffed: &[u8]) -> Result<Answer<'_>, u8> {
     match unstuffed {
-        [] => Answer::None,
-        [_] | [_, _] => Answer::Refused(TOO_SHORT),
+        [] => Ok(Answer::None),
+        [_] | [_, _] => Err(TOO_SHORT),
         [message @ .., low, high] => {
             if check_sequence(message) == u16::from_le_bytes([*low, *high]) {
-                Answer::Message(message)
+                Ok(Answer::Message(message))
             } else {
-                Answer::Refused(SEQUENCE_DIFFERS)
+                Err(SEQUENCE_DIFFERS)
             }
         }
     }
@@ -186,19 +195,22 @@ pub struct Kept {
     pub number: u8,
     /// Empty unless the number is 0.
     pub message: Vec<u8>,
+    /// That of a refusal, else 0.
+    pub position: usize,
 }
 
 impl Kept {
     pub fn new(at: usize, answer: Answer) -> Option<Self> {
-        let (number, message) = match answer {
+        let (number, message, position) = match answer {
             Answer::None => return None,
-            Answer::Message(message) => (0, message.to_vec()),
-            Answer::Refused(number) => (number, Vec::new()),
+            Answer::Message(message) => (0, message.to_vec(), 0),
+            Answer::Refused { number, position } => (number, Vec::new(), position),
         };
         Some(Self {
             at,
             number,
             message,
+            position,
         })
     }
 }
@@ -214,167 +226,4 @@ pub fn answers(stream: &[u8]) -> Vec<Kept> {
 }
 
 #[cfg(test)]
-mod tests {
-    use super::*;
-    use crate::recording::{between_flags, framed, mixed};
-    use crate::vectors::HEARTBEAT;
-    use crate::xorshift::Xorshift;
-
-    /// The numbers that the stream is answered with.
-    fn numbers(stream: &[u8]) -> Vec<u8> {
-        answers(stream).iter().map(|kept| kept.number).collect()
-    }
-
-    /// As `numbers`, for bytes as they stand between two flags.
-    fn numbers_between(bytes: &[u8]) -> Vec<u8> {
-        numbers(&[&[FLAG], bytes, &[FLAG]].concat())
-    }
-
-    fn messages(stream: &[u8]) -> Vec<Vec<u8>> {
-        let accepted = |kept: Kept| (kept.number == 0).then_some(kept.message);
-        answers(stream).into_iter().filter_map(accepted).collect()
-    }
-
-    #[test]
-    fn heartbeat_of_001() {
-        let stream = [&[0x55], &framed(&HEARTBEAT)[..]].concat();
-        let expected = Kept::new(stream.len() - 1, Answer::Message(&HEARTBEAT));
-        assert_eq!(answers(&stream), Vec::from_iter(expected));
-    }
-
-    #[test]
-    fn values_5_and_6_of_01() {
-        let cancelled = [0x00, 0x81, 0x41, 0xDB, 0xD0, 0x08, 0x03];
-        let stream = [&[FLAG], &cancelled[..], &[0xB2, 0x8B, FLAG]].concat();
-        assert_eq!(messages(&stream), [cancelled]);
-        assert_eq!(numbers_between(&[0x7D]), [2]);
-        assert_eq!(numbers_between(&[0x7D, 0x00]), [1]);
-        assert_eq!(numbers_between(&[0x07, 0x07]), [4]);
-        assert_eq!(messages(&[FLAG, 0x07, 0x07, 0x00, FLAG]), [[0x07]]);
-    }
-
-    #[test]
-    fn nothing_is_no_answer() {
-        assert_eq!(numbers(&[]), []);
-        assert_eq!(numbers(&[FLAG; 5]), []);
-        assert_eq!(numbers(&[0x07, 0x07, 0x00, FLAG]), []);
-    }
-
-    #[test]
-    fn lead_in_knows_no_escape() {
-        let stream = [&[0x7D, 0x7D, 0x00, 0x7D], &framed(&HEARTBEAT)[..]].concat();
-        assert_eq!(messages(&stream), [HEARTBEAT]);
-        assert_eq!(numbers(&[0x07; 500]), []);
-        assert_eq!(numbers(&[&[0x07; 500][..], &[FLAG, FLAG]].concat()), []);
-    }
-
-    #[test]
-    fn one_flag_closes_and_opens() {
-        let mut stream = framed(&[1, 2, 3]);
-        stream.extend(&framed(&[4])[1..]);
-        stream.extend(&framed(&HEARTBEAT)[1..]);
-        let expected: [&[u8]; 3] = [&[1, 2, 3], &[4], &HEARTBEAT];
-        assert_eq!(messages(&stream), expected);
-    }
-
-    #[test]
-    fn every_byte_behind_an_escape() {
-        for byte in 0..=255 {
-            let expected: &[u8] = match byte {
-                ESCAPED_ESCAPE | ESCAPED_FLAG => &[4],
-                // The flag closes; the byte behind it is a frame of its own.
-                FLAG => &[2, 4],
-                _ => &[1],
-            };
-            assert_eq!(numbers_between(&[ESCAPE, byte, 0x00]), expected[..]);
-        }
-        assert_eq!(messages(&[FLAG, 0x7D, 0x5D, 0x7D, 0x5D, 0, FLAG]), [[0x7D]]);
-        assert_eq!(messages(&[FLAG, 0x7D, 0x5E, 0x7D, 0x5E, 0, FLAG]), [[0x7E]]);
-    }
-
-    /// Each is answered once, and the frame behind its flag is whole.
-    #[test]
-    fn next_frame_keeps_its_first_byte() {
-        let full = [0x11; ROOM + 1];
-        for bytes in [&[0x7D][..], &[0x01, 0x7D], &[0x7D, 0x7D], &full] {
-            let stream = [&[FLAG], bytes, &framed(&[0x5E, 0x5D])].concat();
-            assert_eq!(messages(&stream), [[0x5E, 0x5D]]);
-            assert_eq!(numbers(&stream).len(), 2);
-        }
-    }
-
-    #[test]
-    fn first_fault_met_wins() {
-        let long = [0x11; ROOM + 1];
-        assert_eq!(numbers_between(&[0x7D, 0x00, 0x7D]), [1]);
-        assert_eq!(numbers_between(&[&[0x7D, 0x00], &long[..]].concat()), [1]);
-        assert_eq!(numbers_between(&[&long[..], &[0x7D]].concat()), [3]);
-        assert_eq!(numbers_between(&[&long[..], &[0x7D, 0x00]].concat()), [3]);
-    }
-
-    #[test]
-    fn full_room() {
-        let full = [0x11; ROOM];
-        let with = |bytes: &[u8]| numbers_between(&[&full, bytes].concat());
-        assert_eq!(with(&[]), [5]);
-        assert_eq!(with(&[0x00]), [3]);
-        assert_eq!(with(&[0x7D]), [2]);
-        assert_eq!(with(&[0x7D, 0x00]), [1]);
-        assert_eq!(with(&[0x7D, 0x7D]), [1]);
-        assert_eq!(with(&[0x7D, 0x5E]), [3]);
-        assert_eq!(with(&[0x7D, 0x5D]), [3]);
-        assert_eq!(numbers_between(&full[1..]), [5]);
-    }
-
-    /// Escapes take no room: 438 escaped bytes fit.
-    #[test]
-    fn escaped_bytes_count_once() {
-        assert_eq!(numbers(&between_flags(&[0x7E; ROOM])), [5]);
-        assert_eq!(numbers(&between_flags(&[0x7E; ROOM + 1])), [3]);
-        assert_eq!(numbers(&between_flags(&[0x7E, 0x7D])), [4]);
-    }
-
-    #[test]
-    fn sequence_high_byte_first_is_refused() {
-        assert_eq!(numbers_between(&[0x07, 0x00, 0x07]), [5]);
-        let [low, high] = check_sequence(&HEARTBEAT).to_le_bytes();
-        let swapped = [&HEARTBEAT[..], &[high, low]].concat();
-        assert_eq!(numbers(&between_flags(&swapped)), [5]);
-    }
-
-    /// In pieces of whatever length.
-    #[test]
-    fn feeding_is_pushing_each_byte() {
-        let mut random = Xorshift::new(17);
-        for round in 0..200 {
-            let stream = mixed(&mut random, 10_000);
-            let mut collector = Collector::new();
-            let mut kept = Vec::new();
-            let mut at = 0;
-            while at < stream.len() {
-                let end = stream.len().min(at + random.below(600));
-                let (taken, answer) = collector.feed(&stream[at..end]);
-                assert!(answer != Answer::None || taken == end - at);
-                at += taken;
-                kept.extend(Kept::new(at.saturating_sub(1), answer));
-            }
-            assert_eq!(kept, answers(&stream), "round {round}");
-        }
-    }
-
-    #[test]
-    fn frames_read_back() {
-        let mut random = Xorshift::new(7);
-        let mut stream = Vec::new();
-        let mut expected = Vec::new();
-        for length in 1..=MESSAGE_MAX {
-            for eighths in [0, 1, 4, 8] {
-                let message = random.message_with_escapes(length, eighths);
-                stream.extend(framed(&message));
-                expected.push(message);
-            }
-        }
-        assert_eq!(messages(&stream), expected);
-        assert_eq!(numbers(&stream).len(), expected.len());
-    }
-}
+mod tests;

@@ -11,6 +11,8 @@ pub mod messages;
 pub mod payloads;
 pub mod recording;
 pub mod samples;
+pub mod state;
+pub mod tally;
 pub mod text;
 pub mod texts;
 pub mod vectors;

@@ -13,11 +13,11 @@ pub const LIMIT: u64 = 4_294_967_295;
 /// Bytes asked for at a time.
 pub const BLOCK: usize = 1 << 16;
 
-const HEADER: &[u8] = b"n at ans id len\n";
+const HEADER: &[u8] = b"n at ans id len pos\n";
 
 /// Room for every line: two numbers of ten digits, an answer of two, an id and a
-/// length of three, and a byte behind each.
-const LINE_MAX: usize = 11 + 11 + 3 + 4 + 4;
+/// length of three, a dash, and a byte behind each.
+const LINE_MAX: usize = 11 + 11 + 3 + 4 + 4 + 2;
 
 /// What ended a listing early.
 #[derive(Debug)]
@@ -137,17 +137,18 @@ impl Lister {
 
     /// The line of what the flag closes. Nothing between two flags has none.
     fn close(&mut self, out: &mut impl Write) -> io::Result<()> {
-        let (answer, id_and_length) = match self.collector.push(FLAG) {
-            Answer::None => (None, None),
+        let answered = match self.collector.push(FLAG) {
+            Answer::None => None,
             Answer::Message(message) => {
                 let answer = messages::read(message).err().unwrap_or(0);
-                (Some(answer), Some((message[0], message.len())))
+                let (id, length) = (message[0], message.len());
+                Some((answer, Frame::Collected { id, length }))
             }
-            Answer::Refused(number) => (Some(number), None),
+            Answer::Refused { number, position } => Some((number, Frame::Refused { position })),
         };
-        if let Some(answer) = answer {
+        if let Some((answer, frame)) = answered {
             self.lines += 1;
-            answer_line(self.lines, self.opened, answer, id_and_length).write(out)?;
+            answer_line(self.lines, self.opened, answer, frame).write(out)?;
         }
         self.lead_in.get_or_insert(self.taken - 1);
         self.opened = self.taken;
@@ -168,15 +169,23 @@ impl Lister {
     }
 }
 
+/// What a line says of a frame behind the answer; a dash stands for the rest.
+enum Frame {
+    Collected { id: u8, length: usize },
+    Refused { position: usize },
+}
+
 /// The fields last to first: the line is filled from its end.
-fn answer_line(number: u64, at: u64, answer: u8, id_and_length: Option<(u8, usize)>) -> Line {
+fn answer_line(number: u64, at: u64, answer: u8, frame: Frame) -> Line {
     let mut line = Line::new();
-    match id_and_length {
-        Some((id, length)) => {
+    match frame {
+        Frame::Collected { id, length } => {
+            line.put_dash();
             line.put_field(length as u64);
             line.put_field(id.into());
         }
-        None => {
+        Frame::Refused { position } => {
+            line.put_field(position as u64);
             line.put_dash();
             line.put_dash();
         }

@@ -9,16 +9,16 @@ use Rattle.collecting.proofs.plain.Statement.{statement}
 use Rattle.collecting.proofs.plain.Tie as tie
 
 abbrev Inv-loop : tie.InvT-loop
-Inv-loop n room₀ bytes end i₀ room i = (i ≤ end) × Passed (opened n room₀) bytes i (opened (n + i) room)
+Inv-loop n at room₀ bytes end i₀ room i = (i ≤ end) × Passed (opened n at room₀) bytes i (opened (n + i) (at + i) room)
 
 abbrev μ-loop : tie.MeasureT-loop
-μ-loop n room₀ bytes end i₀ room i = end - i
+μ-loop n at room₀ bytes end i₀ room i = end - i
 
 loop-holds : tie.Need-loop-holds Inv-loop μ-loop
-loop-holds c = (omega arith, plain-none (c .before .before .pre))
+loop-holds c = (omega arith, plain-none)
 
 loop-again : tie.Need-loop-again Inv-loop μ-loop
-loop-again c = (omega arith, plain-one (c .before .before .before .before .loop .inv .1) (omega arith) (omega arith) (c .before .if1 .left) (c .if2 .left))
+loop-again c = (omega arith, plain-one (c .before .before .before .before .loop .inv .1) (omega arith) (omega arith) (omega arith) (c .before .if1 .left) (c .if2 .left))
 
 pub plain-spec : {M : Type 1} → statement M
 plain-spec =
@@ -28,13 +28,15 @@ plain-spec =
     μ-loop
     (search needs)
     (search needs)
+    (search needs)
+    (search needs)
     loop-holds
     (search needs)
-    (λ c. c .before .before .before .loop .inv .1)
-    (λ c. c .before .before .before .before .loop .inv .1)
+    (λ c. (omega arith, c .before .before .before .loop .inv .1))
+    (λ c. (omega arith, c .before .before .before .before .loop .inv .1))
     (search needs)
     (search needs)
     (search needs)
     (search needs)
     loop-again
-    (λ c. c .before .loop .inv .1))
+    (λ c. (omega arith, c .before .loop .inv .1)))

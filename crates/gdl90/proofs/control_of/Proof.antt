@@ -16,7 +16,7 @@ returns : tie.Need-returns
 unfolding controlOf
 returns c =
     let a = c .before .before .before .args .control in
-    ap {B = Control} (λ (p : Phase). record { count = a .count; phase = p }) (c .phase-of .ensures) ∙ simp (le-leb _ 4 (c .before .if1 .taken))
+    ap {B = Control} (λ (p : Phase). record { count = a .count; stuffed = a .stuffed; phase = p }) (c .phase-of .ensures) ∙ simp (le-leb _ 4 (c .before .if1 .taken))
 
 returns-2 : tie.Need-returns-2
 unfolding controlOf

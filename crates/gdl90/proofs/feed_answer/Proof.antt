@@ -16,6 +16,9 @@ answer-number-requires c κs = search needs
 message-length-requires : tie.Need-message-length-requires
 message-length-requires c κs = search needs
 
+position-requires : tie.Need-position-requires
+position-requires c κs = search needs
+
 returns : tie.Need-returns
 returns c = cc
 
@@ -27,4 +30,5 @@ feed-answer-spec =
     is-answered-requires
     answer-number-requires
     message-length-requires
+    position-requires
     returns)

@@ -20,11 +20,11 @@ feed-answer-requires c κs = search needs
 
 returns : tie.Need-returns
 returns c =
-    let f = c .before .before in
+    let f = c .before in
     let d = f .before .before .before in
     let a = d .before .before .args in
     let e = f .feed .ensures ∙ ap (λ (c : Control). run (held c (a .room .now)) (a .message .now) (a .bytes .now)) (d .control-of .ensures) in
-    (c .feed-answer .ensures ∙ ap ranAnswer e, (ap (λ (r : Run). r .last .state .room) e, ap (λ (r : Run). r .last .message) e))
+    (c .feed-answer .ensures ∙ ap ranAnswer e, ap (λ (r : Run). r .last .state .room) e, ap (λ (r : Run). r .last .message) e)
 
 pub gdl90-feed-spec : {M : Type 1} → statement M
 gdl90-feed-spec =

@@ -5,7 +5,7 @@ use mathlib.Core.Path.{refl, sym}
 use native.Mathlib.Nat.{add-zero}
 use Rattle.collecting.specs.Stream.{reply}
 use Rattle.listing.specs.Listing.{replyLine}
-use Rattle.listing.proofs.Rows.{ranged, accepted-line}
+use Rattle.listing.proofs.Rows.{ranged, position-most, accepted-line}
 use borrow.Author.Needs.{needs}
 use Rattle.listing.proofs.put_reply.Statement.{statement}
 use Rattle.listing.proofs.put_reply.Tie as tie
@@ -28,13 +28,15 @@ put-line-requires : tie.Need-put-line-requires
 put-line-requires c κs =
     let a = c .before .before .before .before .before in
     let p = a .before .before .before .pre in
-    (p .0, p .1, ranged _ _ (a .answer .given .1) (p .2) .1, p .3)
+    (p .0, p .1, ranged _ _ (a .answer .given .1) (p .2) .1, omega arith, p .3)
 
 enum-known-answer-2 : tie.Need-enum-known-answer-2
 enum-known-answer-2 c = search needs
 
 put-line-requires-2 : tie.Need-put-line-requires-2
-put-line-requires-2 c κs = search needs
+put-line-requires-2 c κs =
+    let p = c .before .before .before .before .before .pre in
+    (p .0, p .1, omega arith, position-most _ _ _ (c .before .before .answer2 .given .1) (p .2), p .3)
 
 returns : tie.Need-returns
 unfolding reply replyLine

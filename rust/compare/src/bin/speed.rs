@@ -2,7 +2,8 @@
 //! that the processor works.
 //! One line for each benchmark: name, ns per message or text (collecting: per byte
 //! of the stream) of each, their ratio. Collecting has a second line, against plain
-//! Rust that copies what stands between two flags or escapes whole.
+//! Rust that copies what stands between two flags or escapes whole; `tallied_whole`
+//! is that with a tally on both sides.
 //!
 //! With the name of a stream as its argument it only collects that, 20 times, by
 //! the proved library: for a profiler.
@@ -21,6 +22,7 @@ use reference::messages::{
 use reference::payloads;
 use reference::recording::{speed_recording, SHAPES};
 use reference::samples::whole;
+use reference::tally::Tally;
 use reference::text;
 use reference::texts::{any_codes, forecast, packed, CODES_MAX};
 use reference::xorshift::Xorshift;
@@ -66,6 +68,7 @@ fn main() {
     for (name, stream) in streams() {
         measure_collect(name, &stream());
     }
+    measure_tallied(&speed_recording());
     measure_by_value(&speed_recording());
 }
 
@@ -341,66 +344,123 @@ fn go_through<T, A>(items: &[T], call: &mut impl FnMut(&T) -> A) {
 
 /// What a round of collecting works out, so that no answer goes unread.
 #[derive(Debug, PartialEq, Eq, Default)]
-struct Tally {
-    answers: usize,
+struct Answers {
+    count: usize,
     message_bytes: usize,
     /// The numbers of refusals, added.
     numbers: usize,
+    /// Their positions, added.
+    positions: usize,
 }
 
-impl Tally {
-    fn add(&mut self, answer: Result<&[u8], u8>) {
-        self.answers += 1;
-        match answer {
-            Ok(message) => self.message_bytes += message.len(),
-            Err(number) => self.numbers += usize::from(number),
-        }
+impl Answers {
+    fn accept(&mut self, message: &[u8]) {
+        self.count += 1;
+        self.message_bytes += message.len();
+    }
+
+    fn refuse(&mut self, number: u8, position: usize) {
+        self.count += 1;
+        self.numbers += usize::from(number);
+        self.positions += position;
     }
 
     fn add_reference(&mut self, answer: Answer) {
         match answer {
             Answer::None => {}
-            Answer::Message(message) => self.add(Ok(message)),
-            Answer::Refused(number) => self.add(Err(number)),
+            Answer::Message(message) => self.accept(message),
+            Answer::Refused { number, position } => self.refuse(number, position),
         }
     }
 }
 
+/// The function for C, without a tally.
 #[inline(never)]
-fn rattle_collect(mut stream: &[u8]) -> Tally {
-    let mut tally = Tally::default();
-    let mut collector = gdl90::Collector::new();
+fn rattle_collect(stream: &[u8]) -> Answers {
+    rattle_collect_by(stream, raw::feed)
+}
+
+#[inline(never)]
+fn rattle_collect_tallied(stream: &[u8]) -> (Answers, [u32; 6]) {
+    let mut tally = raw::Tally::default();
+    let answers = rattle_collect_by(stream, |control, room, message, bytes| {
+        raw::feed_tallied(control, room, message, bytes, &mut tally)
+    });
+    (answers, tally.counts)
+}
+
+#[inline(always)]
+fn rattle_collect_by(
+    mut stream: &[u8],
+    mut feed: impl FnMut(
+        raw::FeedControl,
+        &mut [u8; raw::ROOM],
+        &mut [u8; MESSAGE_MAX],
+        &[u8],
+    ) -> raw::FeedAnswer,
+) -> Answers {
+    let mut answers = Answers::default();
+    let mut lent = Lent([0; raw::ROOM], [0; MESSAGE_MAX]);
+    let Lent(room, message) = &mut lent;
+    let mut control = raw::FeedControl::default();
     while !stream.is_empty() {
-        let fed = collector.feed(stream);
+        let fed = feed(control, room, message, stream);
+        control = fed.control;
         stream = &stream[fed.taken..];
-        if let Some(answer) = fed.answer {
-            tally.add(answer.map_err(gdl90::Error::number));
+        match (fed.answered, fed.number) {
+            (false, _) => {}
+            (true, 0) => answers.accept(&message[..fed.length]),
+            (true, number) => answers.refuse(number, fed.position),
         }
     }
-    tally
+    answers
 }
 
+/// Within one page, as `gdl90::Collector` is.
+#[repr(align(1024))]
+struct Lent([u8; raw::ROOM], [u8; MESSAGE_MAX]);
+
 #[inline(never)]
-fn reference_collect(stream: &[u8]) -> Tally {
-    let mut tally = Tally::default();
+fn reference_collect(stream: &[u8]) -> Answers {
+    let mut answers = Answers::default();
     let mut collector = reference::collecting::Collector::new();
     for &byte in stream {
-        tally.add_reference(collector.push(byte));
+        answers.add_reference(collector.push(byte));
     }
-    tally
+    answers
 }
 
 /// What stands between two flags or escapes is copied whole.
 #[inline(never)]
-fn reference_collect_whole(mut stream: &[u8]) -> Tally {
+fn reference_collect_whole(stream: &[u8]) -> Answers {
+    let mut answers = Answers::default();
+    feed_whole(stream, |answer| answers.add_reference(answer));
+    answers
+}
+
+#[inline(never)]
+fn reference_collect_tallied(stream: &[u8]) -> (Answers, [u32; 6]) {
+    let mut answers = Answers::default();
     let mut tally = Tally::default();
+    feed_whole(stream, |answer| {
+        match answer {
+            Answer::None => {}
+            Answer::Message(_) => tally.record(0),
+            Answer::Refused { number, .. } => tally.record(number),
+        }
+        answers.add_reference(answer);
+    });
+    (answers, tally.counts)
+}
+
+#[inline(always)]
+fn feed_whole(mut stream: &[u8], mut take: impl FnMut(Answer)) {
     let mut collector = reference::collecting::Collector::new();
     while !stream.is_empty() {
         let (taken, answer) = collector.feed(stream);
         stream = &stream[taken..];
-        tally.add_reference(answer);
+        take(answer);
     }
-    tally
 }
 
 fn measure_collect(name: &str, stream: &[u8]) {
@@ -426,8 +486,28 @@ fn measure_collect(name: &str, stream: &[u8]) {
     report(&format!("{name}_whole"), "ns/byte", 3, [rattle, whole]);
 }
 
+/// With a tally on both sides; what stands between two flags or escapes is copied
+/// whole.
+fn measure_tallied(stream: &[u8]) {
+    let expected = reference_collect_tallied(stream);
+    assert_eq!(rattle_collect_tallied(stream), expected);
+    let sides = medians(
+        COLLECT_ROUNDS,
+        [
+            &mut || {
+                black_box(rattle_collect_tallied(black_box(stream)));
+            },
+            &mut || {
+                black_box(reference_collect_tallied(black_box(stream)));
+            },
+        ],
+    )
+    .map(|round| round / stream.len() as f64);
+    report("tallied_whole", "ns/byte", 3, sides);
+}
+
 fn measure_by_value(stream: &[u8]) {
-    let expected = reference_collect(stream).answers;
+    let expected = reference_collect(stream).count;
     assert_eq!(compare::answers_by_value(stream), expected);
     let sides = medians(
         COLLECT_ROUNDS,

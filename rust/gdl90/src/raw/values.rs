@@ -43,16 +43,19 @@ pub struct FrameAnswer {
 }
 
 /// What collecting keeps between two calls, beside the room: all zero is the
-/// fresh state. A count over 438 or a phase over 4 is taken as the fresh state.
+/// fresh state. A count over 438, over 878 stuffed bytes or a phase over 4 is
+/// taken as the fresh state.
 #[repr(C)]
 #[derive(Clone, Copy, Debug, PartialEq, Eq, Default)]
 pub struct FeedControl {
     pub count: usize,
+    pub stuffed: usize,
     pub phase: u8,
 }
 
 /// Answer of collecting: the state to go on with, the bytes taken, and, if the
-/// last of them closed a frame, the number and the message's length.
+/// last of them closed a frame, the number, with 0 the message's length, and with
+/// 1 to 5 the position.
 #[repr(C)]
 #[derive(Clone, Copy, Debug, PartialEq, Eq, Default)]
 pub struct FeedAnswer {
@@ -61,6 +64,7 @@ pub struct FeedAnswer {
     pub answered: bool,
     pub number: u8,
     pub length: usize,
+    pub position: usize,
 }
 
 /// Numbers of a heartbeat.

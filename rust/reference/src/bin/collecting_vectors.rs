@@ -3,7 +3,8 @@
 //! `collecting_vectors input` writes the recording, in binary.
 //! `collecting_vectors output` writes a block for each piece size: a line
 //! `in pieces of P`, then one line for each answer: offset of the closing flag,
-//! the number, message in hex ("-" unless the number is 0).
+//! the number, message in hex ("-" unless the number is 0), and unless it is 0 the
+//! position.
 
 use std::io::{self, Write};
 use std::process::ExitCode;
@@ -38,6 +39,9 @@ fn write_output(out: &mut dyn Write) -> io::Result<()> {
         for answer in &kept {
             write!(out, "{} {} ", answer.at, answer.number)?;
             write_hex(out, &answer.message)?;
+            if answer.number != 0 {
+                write!(out, " {}", answer.position)?;
+            }
             writeln!(out)?;
         }
     }
@@ -49,7 +53,7 @@ fn recording() -> Vec<u8> {
     let mut out = Vec::new();
     add_lead_in(&mut out);
     for _ in 0..REPEATS {
-        add_values_of_01(&mut out);
+        add_values(&mut out);
         add_flags(&mut out, &mut random);
         add_short(&mut out, &mut random);
         add_sequences(&mut out, &mut random);
@@ -58,6 +62,7 @@ fn recording() -> Vec<u8> {
         add_first_fault_wins(&mut out, &mut random);
         add_longest(&mut out, &mut random);
     }
+    add_positions(&mut out);
     add_every_byte_behind_an_escape(&mut out);
     out.extend(mixed(&mut random, GENERATED));
     out
@@ -80,7 +85,7 @@ fn add_lead_in(out: &mut Vec<u8>) {
 }
 
 /// Values 1 and 3 to 6 of RULES 'Values'.
-fn add_values_of_01(out: &mut Vec<u8>) {
+fn add_values(out: &mut Vec<u8>) {
     out.extend(framed(&HEARTBEAT));
     out.extend(framed(&[FLAG]));
     out.extend(framed(&[FLAG, ESCAPE]));
@@ -199,10 +204,61 @@ fn add_longest(out: &mut Vec<u8>, random: &mut Xorshift) {
     out.extend(between_flags(&long));
 }
 
+/// Each fault behind an escape, and behind 438 bytes, plain and escaped; what comes
+/// behind a fault moves no position.
+fn add_positions(out: &mut Vec<u8>) {
+    add(out, &[0x07, ESCAPE, 0x5E, ESCAPE, 0x00]);
+    add(out, &[0x07, ESCAPE, 0x5D, ESCAPE]);
+    add(out, &[ESCAPE, 0x5E, 0x07]);
+    add(out, &[ESCAPE, 0x5E, 0x07, 0x07]);
+    let long = [0x55; ROOM + 1];
+    add(out, &[&long[..], &[0x07, ESCAPE, 0x00]].concat());
+    let escaped = [ESCAPE, 0x5E].repeat(ROOM);
+    let behind: [&[u8]; 5] = [
+        &[],
+        &[0x07],
+        &[ESCAPE],
+        &[ESCAPE, 0x00],
+        &[ESCAPE, 0x5E, 0x07],
+    ];
+    for bytes in behind {
+        add(out, &[&escaped, bytes].concat());
+    }
+}
+
 /// Two bytes follow, so that 0x5D and 0x5E make a frame of three: 7D or 7E,
 /// then the sequence of that one byte, escaped.
 fn add_every_byte_behind_an_escape(out: &mut Vec<u8>) {
     for byte in 0..=255 {
         add(out, &[ESCAPE, byte, ESCAPE, byte, 0x00]);
+    }
+}
+
+#[cfg(test)]
+mod tests {
+    use super::*;
+
+    /// It has to fit into the largest piece.
+    #[test]
+    fn recording_is_taken_whole() {
+        assert!(recording().len() <= PIECES[0], "{}", recording().len());
+    }
+
+    /// Each number where the frame is shortest and longest, and behind an escape.
+    #[test]
+    fn every_rule_of_positions_occurs() {
+        let kept = answers(&recording());
+        for refused in [
+            [(1, 2), (1, 5), (1, 878)],
+            [(2, 1), (2, 4), (2, 877)],
+            [(3, 439), (3, 877), (3, 878)],
+            [(4, 1), (4, 3), (4, 4)],
+            [(5, 3), (5, 4), (5, 876)],
+        ]
+        .concat()
+        {
+            let found = kept.iter().any(|one| (one.number, one.position) == refused);
+            assert!(found, "{refused:?}");
+        }
     }
 }

@@ -230,15 +230,15 @@ mod tests {
 
     const README: &str = include_str!("../../../../samples/README.md");
 
-    /// Answer, id and length in each line, and the last line.
-    fn lines() -> (Vec<[String; 3]>, String) {
+    /// Answer, id, length and position in each line, and the last line.
+    fn lines() -> (Vec<[String; 4]>, String) {
         let text = String::from_utf8(listing(&recording())).expect("ASCII");
         let mut lines: Vec<&str> = text.lines().skip(1).collect();
         let end = lines.pop().expect("a last line").to_string();
         let fields = |line: &str| {
             let fields: Vec<String> = line.split(' ').map(String::from).collect();
-            let [_, _, answer, id, length] = fields.try_into().expect("five fields");
-            [answer, id, length]
+            let [_, _, answer, id, length, position] = fields.try_into().expect("six fields");
+            [answer, id, length, position]
         };
         (lines.into_iter().map(fields).collect(), end)
     }
@@ -247,7 +247,7 @@ mod tests {
     fn every_kind_is_accepted() {
         let (lines, _) = lines();
         for (id, length) in LENGTHS {
-            let accepted = ["0".to_string(), id.to_string(), length.to_string()];
+            let accepted = ["0", &id.to_string(), &length.to_string(), "-"].map(String::from);
             assert!(lines.contains(&accepted), "id {id}");
         }
     }
@@ -263,13 +263,13 @@ mod tests {
         assert_eq!(end, "end 11 12");
     }
 
-    /// The first two columns of its table are the line and its answer.
+    /// The first three columns of its table are the line, its answer and its position.
     #[test]
     fn readme_names_the_lines_that_are_refused() {
         let (lines, _) = lines();
         let numbered = (1..).zip(lines).filter(|(_, line)| line[0] != "0");
         let expected: Vec<String> = numbered
-            .map(|(number, line)| format!("{number} {}", line[0]))
+            .map(|(number, line)| format!("{number} {} {}", line[0], line[3]))
             .collect();
         let table = README
             .lines()
@@ -279,7 +279,7 @@ mod tests {
             .skip(2)
             .map(|row| {
                 let columns: Vec<&str> = row.split('|').map(str::trim).collect();
-                columns[1..3].join(" ")
+                columns[1..4].join(" ")
             })
             .collect();
         assert_eq!(named, expected);

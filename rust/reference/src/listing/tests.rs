@@ -7,6 +7,7 @@ use crate::framing::{ESCAPE, MESSAGE_MAX};
 use crate::messages::{HEARTBEAT_ID, LENGTHS};
 use crate::recording::{between_flags, framed, mixed};
 use crate::samples::whole;
+use crate::state::STUFFED_MAX;
 use crate::vectors::{HEARTBEAT, SALEM};
 use crate::xorshift::Xorshift;
 
@@ -15,17 +16,17 @@ fn lines(stream: &[u8]) -> Vec<String> {
     let text = String::from_utf8(listing(stream)).expect("ASCII");
     assert!(text.ends_with('\n'), "{text:?}");
     let mut lines = text.lines().map(String::from);
-    assert_eq!(lines.next().as_deref(), Some("n at ans id len"));
+    assert_eq!(lines.next().as_deref(), Some("n at ans id len pos"));
     lines.collect()
 }
 
 #[test]
-fn example_of_01() {
+fn example_of_the_rules() {
     let stream = [
         0x55, 0x7E, 0x00, 0x81, 0x41, 0xDB, 0xD0, 0x08, 0x02, 0xB3, 0x8B, 0x7E, 0x7E, 0x00, 0x81,
         0x41, 0xDB, 0xD0, 0x08, 0x02, 0xB3, 0x8A, 0x7E, 0x07, 0x7D,
     ];
-    let expected = "n at ans id len\n1 2 0 0 7\n2 13 5 - -\nend 1 2\n";
+    let expected = "n at ans id len pos\n1 2 0 0 7 -\n2 13 5 - - 9\nend 1 2\n";
     assert_eq!(listing(&stream), expected.as_bytes());
 }
 
@@ -60,16 +61,16 @@ fn every_answer() {
     ]
     .concat();
     let expected = [
-        "1 1 0 0 7",
-        "2 11 1 - -",
-        "3 15 2 - -",
-        "4 18 3 - -",
-        "5 458 4 - -",
-        "6 461 5 - -",
-        "7 490 6 1 2",
-        "8 496 7 0 6",
-        "9 506 8 0 7",
-        "10 517 17 30 2",
+        "1 1 0 0 7 -",
+        "2 11 1 - - 3",
+        "3 15 2 - - 2",
+        "4 18 3 - - 439",
+        "5 458 4 - - 2",
+        "6 461 5 - - 28",
+        "7 490 6 1 2 -",
+        "8 496 7 0 6 -",
+        "9 506 8 0 7 -",
+        "10 517 17 30 2 -",
         "end 0 0",
     ];
     assert_eq!(lines(&stream), expected);
@@ -79,7 +80,7 @@ fn every_answer() {
 fn every_kind_is_read() {
     let mut random = Xorshift::new(40);
     for (id, length) in LENGTHS {
-        let line = format!("1 1 0 {id} {length}");
+        let line = format!("1 1 0 {id} {length} -");
         assert_eq!(lines(&framed(&whole(&mut random, id))), [&line, "end 0 0"]);
     }
 }
@@ -95,7 +96,7 @@ fn retired_ids_are_listed() {
             let stream = framed(&message);
             let collected = Kept::new(stream.len() - 1, Answer::Message(&message));
             assert_eq!(answers(&stream), [collected.expect("an answer")]);
-            assert_eq!(lines(&stream)[0], format!("1 1 17 {id} {length}"));
+            assert_eq!(lines(&stream)[0], format!("1 1 17 {id} {length} -"));
         }
     }
 }
@@ -104,10 +105,12 @@ fn retired_ids_are_listed() {
 #[test]
 fn lengths_are_of_the_unstuffed_message() {
     let mut message = vec![FLAG; MESSAGE_MAX];
-    assert_eq!(lines(&framed(&message))[0], "1 1 6 126 436");
+    assert_eq!(lines(&framed(&message))[0], "1 1 6 126 436 -");
     message.push(FLAG);
     message.extend(check_sequence(&message).to_le_bytes());
-    assert_eq!(lines(&between_flags(&message))[0], "1 1 3 - -");
+    let long = between_flags(&message);
+    let position = long.len() - 2; // all between the flags: its last byte is the 439th
+    assert_eq!(lines(&long)[0], format!("1 1 3 - - {position}"));
 }
 
 /// Against `answers`, whose offsets are those of the closing flags.
@@ -127,19 +130,30 @@ fn offsets_are_behind_the_opening_flag() {
 
 #[test]
 fn longest_lines_fit() {
-    let line = answer_line(LIMIT, LIMIT, 17, Some((255, MESSAGE_MAX)));
+    let (id, length) = (255, MESSAGE_MAX);
+    let line = answer_line(LIMIT, LIMIT, 17, Frame::Collected { id, length });
     assert_eq!(line.start, 0);
-    assert_eq!(&line.bytes, b"4294967295 4294967295 17 255 436\n");
+    assert_eq!(&line.bytes, b"4294967295 4294967295 17 255 436 -\n");
+    let position = STUFFED_MAX;
+    let line = answer_line(LIMIT, LIMIT, 3, Frame::Refused { position });
+    assert_eq!(
+        &line.bytes[line.start..],
+        b"4294967295 4294967295 3 - - 878\n"
+    );
 }
 
 #[test]
 fn bytes_over_the_limit_are_not_read() {
     let stream = [&[0x55], &framed(&HEARTBEAT)[..], &framed(&HEARTBEAT)].concat();
-    for (limit, expected) in [(1, "end 1 0"), (11, "end 1 9"), (12, "1 2 0 0 7\nend 1 0")] {
+    for (limit, expected) in [
+        (1, "end 1 0"),
+        (11, "end 1 9"),
+        (12, "1 2 0 0 7 -\nend 1 0"),
+    ] {
         let (mut left, mut out) = (&stream[..], Vec::new());
         list_up_to(limit, &mut left, &mut out).unwrap();
         assert_eq!(left.len(), stream.len() - limit as usize);
-        let expected = format!("n at ans id len\n{expected}\n");
+        let expected = format!("n at ans id len pos\n{expected}\n");
         assert_eq!(String::from_utf8(out), Ok(expected));
     }
 }
@@ -194,8 +208,8 @@ fn lines_appear_as_input_arrives() {
     let pieces = vec![Ok(&frame[..5]), interrupted, Ok(&frame[5..]), Ok(&[0x07])];
     let (answer, text, seen) = list_pieces(pieces);
     assert!(answer.is_ok());
-    assert_eq!(text, "n at ans id len\n1 1 0 0 7\nend 0 1\n");
-    assert_eq!(seen, [16, 16, 16, 26, 26]);
+    assert_eq!(text, "n at ans id len pos\n1 1 0 0 7 -\nend 0 1\n");
+    assert_eq!(seen, [20, 20, 20, 32, 32]);
 }
 
 #[test]
@@ -204,13 +218,13 @@ fn failed_read_keeps_the_lines_before_it() {
     let pieces = vec![Ok(&frame[..]), Err(ErrorKind::Other.into()), Ok(&frame)];
     let (answer, text, _) = list_pieces(pieces);
     assert!(matches!(answer, Err(Failure::Reading(_))));
-    assert_eq!(text, "n at ans id len\n1 1 0 0 7\n");
+    assert_eq!(text, "n at ans id len pos\n1 1 0 0 7 -\n");
 }
 
 #[test]
 fn full_output_ends_the_listing() {
     let frames = framed(&[HEARTBEAT_ID; 3]).repeat(10 * BLOCK);
-    for room in [0, 15, 16, 100] {
+    for room in [0, 19, 20, 100] {
         let mut input = &frames[..];
         let answer = list(&mut input, &mut vec![0; room][..]);
         assert!(matches!(answer, Err(Failure::Writing(_))), "{room}");
