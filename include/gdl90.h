@@ -122,7 +122,7 @@ struct gdl90_feed_answer {
     bool answered;                     /* the last of them closed a frame; else number, length and position are 0 */
     uint8_t number;                    /* of 1, 2 and 3 the one that the bytes meet first; 4, 5, 0 */
     size_t length;                     /* of the message, 1 to 436, where answered with 0 */
-    size_t position;                   /* 1 to 878, where answered with 1 to 5; else 0 */
+    size_t position;                   /* where answered with 1 to 5: at most 878; else 0 */
 };
 
 /* Takes bytes until one closes a frame or there are no more: call it again with what is left. Where answered with 0 all of

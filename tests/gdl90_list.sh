@@ -72,12 +72,16 @@ listings() {
         [ "$(xxd -s $((at - 1)) -l 1 -p "$sample")" = 7e ] || wrong "no flag before byte $at"
     done
     echo 'ok: xxd -s AT is behind a flag'
+    for at in $(awk '$3 ~ /^[245]$/ && NF == 6 { print $2 + $6 }' "$listing"); do
+        [ "$(xxd -s "$at" -l 1 -p "$sample")" = 7e ] || wrong "no flag at byte $at"
+    done
+    echo 'ok: with 2, 4 and 5 xxd -s AT -l POS ends before the closing flag'
 }
 
 arguments() {
     local words
     run "$list" --help
-    for words in '  n  ' '  at  ' '  ans  ' '  id  ' '  len  ' 'xxd -s AT' "Often a message of the maker's own, and no fault"; do
+    for words in '  n  ' '  at  ' '  ans  ' '  id  ' '  len  ' '  pos  ' 'xxd -s AT -l POS' "Often a message of the maker's own, and no fault"; do
         grep -qF -- "$words" "$out" || wrong "help: no word of '$words'"
     done
     ! grep -qE '.{81}' "$out" || wrong 'help: a line over 80 characters'

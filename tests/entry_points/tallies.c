@@ -1,4 +1,4 @@
-/* The tally of collecting's answers (RULES 'Collecting', 'Structs for C'). */
+/* The tally of collecting's answers (RULES 'Tally', 'Structs for C'). */
 #include "check.h"
 
 /* A frame for each answer, by its number. */

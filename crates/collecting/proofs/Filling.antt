@@ -11,10 +11,11 @@ use lib.ListN.{length, take, drop, getD, set, drop-of-length-le, length-take, le
 use lib.Seq.{take-add, take-all, drop-cons}
 use borrow.Author.Tests.{eq-eqb, ne-eqb, eqb-false}
 use Rattle.framing.specs.Stuffing.{flag, controlEscape, Flagless}
+use Rattle.collecting.specs.declared.Phase.the-variants.{Open}
 use Rattle.collecting.specs.declared.Collector.{Collector}
-use Rattle.collecting.specs.Step.{inside, taken, next}
+use Rattle.collecting.specs.Step.{stateIn, inside, taken, next}
 use Rattle.collecting.specs.Stream.{after, unflagged}
-use Rattle.collecting.specs.Stretch.{opened, Within, Passed}
+use Rattle.collecting.specs.Stretch.{Within, Passed}
 use Rattle.collecting.proofs.Cases.{taken-within, inside-next, collected-room, open-other}
 use Rattle.collecting.proofs.Holding.{stuck}
 use Rattle.collecting.proofs.Ranging.{taken-most}
@@ -97,19 +98,19 @@ pub passed-part : {c d e : Collector} {bs : List ℕ} {n k : ℕ} → Passed c b
 passed-part {d = d} {e = e} {bs = bs} {n = n} {k = k} p q = passed-more p (subst (λ (t : List ℕ). Passed d t k e) (rest bs n) q)
 
 -- plain bytes, between flags
-counts : {room : List ℕ} {i j k l : ℕ} → i ≡ j → k ≡ l → opened i k room ≡ opened j l room
-counts {room} e f = ap₂ (λ (n at : ℕ). opened n at room) e f
+counts : {room : List ℕ} {i j k l : ℕ} → i ≡ j → k ≡ l → stateIn Open i k room ≡ stateIn Open j l room
+counts {room} e f = ap₂ (λ (n at : ℕ). stateIn Open n at room) e f
 
 module _ {n at : ℕ} {start bs : List ℕ} where
-  pub plain-none : Passed (opened n at start) bs 0 (opened (n + 0) (at + 0) start)
-  plain-none = subst (Passed (opened n at start) bs 0) (counts (omega arith) (omega arith)) passed-none
+  pub plain-none : Passed (stateIn Open n at start) bs 0 (stateIn Open (n + 0) (at + 0) start)
+  plain-none = subst (Passed (stateIn Open n at start) bs 0) (counts (omega arith) (omega arith)) passed-none
 
-  pub plain-one : {i : ℕ} {room : List ℕ} → Passed (opened n at start) bs i (opened (n + i) (at + i) room) → i < length bs → n + i < 438 → at + i < 878
+  pub plain-one : {i : ℕ} {room : List ℕ} → Passed (stateIn Open n at start) bs i (stateIn Open (n + i) (at + i) room) → i < length bs → n + i < 438 → at + i < 878
       → (getD bs i 0 ≡ controlEscape → ⊥) → (getD bs i 0 ≡ flag → ⊥)
-      → Passed (opened n at start) bs (i + 1) (opened (n + (i + 1)) (at + (i + 1)) (set room (n + i) (getD bs i 0)))
+      → Passed (stateIn Open n at start) bs (i + 1) (stateIn Open (n + (i + 1)) (at + (i + 1)) (set room (n + i) (getD bs i 0)))
   plain-one {i} {room} p h l m e f =
       passed-one p (record { count = omega arith; stuffed = omega arith }) h f
-      (counts (omega arith) (omega arith) ∙ collected-room (n + i) (at + i + 1) room (getD bs i 0) l ∙ open-other (opened (n + i) (at + i) room) (getD bs i 0) refl e)
+      (counts (omega arith) (omega arith) ∙ collected-room (n + i) (at + i + 1) room (getD bs i 0) l ∙ open-other (stateIn Open (n + i) (at + i) room) (getD bs i 0) refl e)
 
 -- where a byte changes nothing, all before the flag pass
 pub passed-stuck : (c : Collector) (bs : List ℕ) → Within (c .control) → ((b : ℕ) → inside (c .control .phase) c b ≡ c) → Passed c bs (unflagged bs) c

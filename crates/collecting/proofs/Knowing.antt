@@ -1,8 +1,8 @@
 -- The states that a stream leads to.
 -- Assumes nothing.
-use mathlib.Core.Path.{_≡_, refl, sym, _∙_, subst}
+use mathlib.Core.Path.{_≡_, refl}
 use mathlib.Core.Bool.{Bool, true, false, cond, _||_}
-use Prim.Native.Nat.{ℕ, _+_, _-_, _*_, _≤_, _<_}
+use Prim.Native.Nat.{ℕ, _+_, _-_, _*_, _≤_}
 use mathlib.Core.List.{List, [], _∷_, foldl}
 use native.Mathlib.Omega.{arith}
 use lib.Dec.{eqb, ltb}
@@ -16,7 +16,7 @@ use Rattle.collecting.specs.declared.Phase.the-variants.{LeadIn, Open, E
 use Rattle.collecting.specs.declared.Answer.{Answer}
 use Rattle.collecting.specs.declared.Answer.the-variants.{None, Accepted, Refused}
 use Rattle.collecting.specs.declared.Collector.{Collector}
-use Rattle.collecting.specs.Step.{stateIn, cleared, fresh, turned, collected, unescaped, inside, checked, closed, taken, next, answerTo}
+use Rattle.collecting.specs.Step.{stateIn, cleared, fresh, collected, unescaped, inside, checked, closed, taken, next, answerTo}
 use Rattle.collecting.specs.Stretch.{Within}
 use Rattle.collecting.specs.Stream.{after, answerNumber, position}
 use Rattle.collecting.specs.Claims.{Known, StatesKnown, NeverOver, FromOne}
@@ -47,7 +47,7 @@ unfolding inside unescaped Known
 inside-known LeadIn c b e h = rw e h
 inside-known Open c b e h = go (eqb b 0x7D)
   where
-    go : (t : Bool) → IsKnown (cond t (turned Escape (c .control .stuffed + 1) c) (collected (c .control .count) (c .control .stuffed + 1) (c .room) b))
+    go : (t : Bool) → IsKnown (cond t (stateIn Escape (c .control .count) (c .control .stuffed + 1) (c .room)) (collected (c .control .count) (c .control .stuffed + 1) (c .room) b))
     go true = omega arith
     go false = collected-known (c .control .count) (c .control .stuffed + 1) (c .room) b (omega arith) (omega arith) (omega arith)
 inside-known Escape c b e h = go (eqb b 0x5D || eqb b 0x5E)

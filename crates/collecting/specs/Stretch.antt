@@ -5,15 +5,9 @@ use Prim.Native.Nat.{ℕ, _+_, _≤_}
 use mathlib.Core.Bool.{cond}
 use mathlib.Core.List.{List}
 use lib.ListN.{length, take, drop}
-use Rattle.collecting.specs.declared.Phase.the-variants.{Open}
 use Rattle.collecting.specs.declared.Control.{Control}
 use Rattle.collecting.specs.declared.Collector.{Collector}
-use Rattle.collecting.specs.Step.{stateIn}
 use Rattle.collecting.specs.Stream.{after, isAnswered, Run, ran, run, unflagged}
-
--- between flags, with n bytes collected and `at` stuffed ones taken
-abbrev pub opened : ℕ → ℕ → List ℕ → Collector
-opened n at room = stateIn Open n at room
 
 -- neither over 438 bytes nor over 878 stuffed ones
 pub record Within (c : Control) : Type 0 where

@@ -4,9 +4,10 @@ ghost use mathlib.Core.List.{_++_};
 ghost use Prim.Native.Nat.{_+_, _-_, _*_, _≤_, _<_, min};
 ghost use lib.ListN.{length, take, replicate};
 ghost use Rattle.fcs.specs.Fcs.{fcs};
-ghost use Rattle.collecting.specs.Step.{held, cleared, fresh, collected, unescaped, inside, checked, closed, over, taken, next, shown, stepped, left};
+ghost use Rattle.collecting.specs.declared.Phase.the-variants.{Open};
+ghost use Rattle.collecting.specs.Step.{held, stateIn, cleared, fresh, collected, unescaped, inside, checked, closed, over, taken, next, shown, stepped, left};
 ghost use Rattle.collecting.specs.Stream.{after, isAnswered, run, fed, unflagged};
-ghost use Rattle.collecting.specs.Stretch.{opened, Within, Passed, Leads};
+ghost use Rattle.collecting.specs.Stretch.{Within, Passed, Leads};
 
 pub enum Phase {
     // before the first flag
@@ -204,7 +205,7 @@ fn inside_frame(control: Control, room: &mut [u8; 438], byte: u8) -> Control
     }
 }
 
-// A byte that is no flag, behind 0x7D: the at-th stuffed byte.
+// A byte that is no flag, behind 0x7D, with which `at` stuffed bytes are taken.
 fn after_escape(n: usize, at: usize, room: &mut [u8; 438], byte: u8) -> Control
     ensures { λ r. ⌜ held r (now (room .exit)) ≡ unescaped n at (now (room .entry)) byte ⌝ }
 {
@@ -214,7 +215,7 @@ fn after_escape(n: usize, at: usize, room: &mut [u8; 438], byte: u8) -> Control
     clear(Phase::BadEscape, at, room)
 }
 
-// One collected byte more, behind n others, the last of it the at-th stuffed byte.
+// One collected byte more, behind n others, with which `at` stuffed bytes are taken.
 fn collect(n: usize, at: usize, room: &mut [u8; 438], byte: u8) -> Control
     ensures { λ r. ⌜ held r (now (room .exit)) ≡ collected n at (now (room .entry)) byte ⌝ }
 {
@@ -399,11 +400,11 @@ fn before_flag(bytes: &[u8]) -> usize
 }
 
 // The bytes that are neither flag nor escape, behind n others and `at` stuffed ones, as many as stand in a row
-// and have room: how many.
+// and have room, up to 878 stuffed ones: how many.
 fn plain(n: usize, at: usize, room: &mut [u8; 438], bytes: &[u8]) -> usize
     requires { ⌜ (n ≤ 438) × (at ≤ 878) ⌝ }
     ensures { λ k. ⌜ (n + k ≤ 438) × (at + k ≤ 878) ⌝ }
-    ensures { λ k. ⌜ Passed (opened n at (now (room .entry))) (now (bytes .entry)) k (opened (n + k) (at + k) (now (room .exit))) ⌝ }
+    ensures { λ k. ⌜ Passed (stateIn Open n at (now (room .entry))) (now (bytes .entry)) k (stateIn Open (n + k) (at + k) (now (room .exit))) ⌝ }
 {
     let end = least(least(438 - n, 878 - at), bytes.len());
     let mut i = 0;

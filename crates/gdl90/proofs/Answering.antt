@@ -1,4 +1,4 @@
--- What a write's answer says in numbers; and what a tally counts of collecting's.
+-- What a write's answer says in numbers; that collecting's answer, out of its struct for C, is tallied alike.
 -- Assumes nothing.
 use mathlib.Core.Path.{_≡_, refl, sym, ap, _∙_, subst}
 use mathlib.Core.Bool.{Bool, true, false, cond}

@@ -1,7 +1,9 @@
 -- What framing and collecting answer, as C has it (RULES 'Structs for C').
 -- Assumes nothing.
+use mathlib.Core.Path.{_≡_}
 use Prim.Native.Nat.{ℕ}
 use mathlib.Core.Bool.{cond}
+use mathlib.Core.List.{List}
 use lib.Dec.{eqb, leb}
 use Rattle.framing.specs.declared.Framed.{Framed}
 use Rattle.framing.specs.Framing.{framedNumber, framedSize}
@@ -11,7 +13,8 @@ use Rattle.collecting.specs.declared.Control.{Control}
 use Rattle.collecting.specs.declared.Answer.{Answer}
 use Rattle.collecting.specs.declared.Answer.the-variants.{None, Accepted, Refused}
 use Rattle.collecting.specs.declared.Fed.{Fed}
-use Rattle.collecting.specs.Stream.{isAnswered, answerNumber, messageLength, position, Run}
+use Rattle.collecting.specs.Step.{held}
+use Rattle.collecting.specs.Stream.{isAnswered, answerNumber, messageLength, position, Run, run}
 use Rattle.gdl90.specs.declared.FrameAnswer.{FrameAnswer}
 use Rattle.gdl90.specs.declared.FeedControl.{FeedControl}
 use Rattle.gdl90.specs.declared.FeedAnswer.{FeedAnswer}
@@ -46,6 +49,16 @@ feedAnswer f = record {
 
 abbrev pub ranAnswer : Run → FeedAnswer
 ranAnswer r = feedAnswer (record { control = r .last .state .control; taken = r .count; answer = r .last .answer })
+
+-- the run of the bytes, with what is lent
+abbrev pub feeding : FeedControl → List ℕ → List ℕ → List ℕ → Run
+feeding c room m bytes = run (held (controlOf c) room) m bytes
+
+-- what C has of a run: the answer, and what the room and the message hold then
+pub record Feeds (r : Run) (answer : FeedAnswer) (room m : List ℕ) : Type 0 where
+  pub answers : answer ≡ ranAnswer r
+  pub leaves-room : room ≡ r .last .state .room
+  pub leaves-message : m ≡ r .last .message
 
 -- the answer in such a struct
 unfoldable pub answerIn : FeedAnswer → Answer

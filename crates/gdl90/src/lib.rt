@@ -4,8 +4,7 @@ ghost use lib.ListN.{length};
 ghost use Rattle.numbers.specs.Lent.{written};
 ghost use Rattle.fcs.specs.Fcs.{fcs};
 ghost use Rattle.framing.specs.Framing.{framing, framedOutput};
-ghost use Rattle.collecting.specs.Step.{held};
-ghost use Rattle.collecting.specs.Stream.{answerNumber, messageLength, position as Stream·position, run};
+ghost use Rattle.collecting.specs.Stream.{answerNumber, messageLength, position as Stream·position};
 ghost use Rattle.tallying.specs.Tally.{tallied};
 ghost use Rattle.heartbeat.specs.Heartbeat.{heartbeatRead};
 ghost use Rattle.initialization.specs.Initialization.{initializationRead};
@@ -16,7 +15,7 @@ ghost use Rattle.messages.specs.Message.{kindNumber};
 ghost use Rattle.information_frames.specs.Walk.{payloadFrames};
 ghost use Rattle.information_frames.specs.Answers.{frameList, nthFrame};
 ghost use Rattle.information_frames.specs.Adding.{adding, addedNumber, payloadAfter};
-ghost use Rattle.gdl90.specs.Collecting.{frameAnswer, phaseNumber, phaseOf, controlOf, feedAnswer, ranAnswer, answerIn};
+ghost use Rattle.gdl90.specs.Collecting.{frameAnswer, phaseNumber, phaseOf, controlOf, feedAnswer, feeding, Feeds, answerIn};
 ghost use Rattle.units.specs.Degrees.{inDegrees};
 ghost use Rattle.units.specs.Feet.{pressureFeet, geometricFeet, terrainFeet};
 ghost use Rattle.gdl90.specs.Payload.{payloadListAnswer, payloadNthAnswer};
@@ -125,9 +124,7 @@ pub extern "C" fn gdl90_feed(
     message: &mut [u8; 436],
     bytes: &[u8],
 ) -> FeedAnswer
-    ensures { λ r. ⌜ (r ≡ ranAnswer (run (held (controlOf control) (now (room .entry))) (now (message .entry)) (now (bytes .entry))))
-        × (now (room .exit) ≡ run (held (controlOf control) (now (room .entry))) (now (message .entry)) (now (bytes .entry)) .last .state .room)
-        × (now (message .exit) ≡ run (held (controlOf control) (now (room .entry))) (now (message .entry)) (now (bytes .entry)) .last .message) ⌝ }
+    ensures { λ r. ⌜ Feeds (feeding control (now (room .entry)) (now (message .entry)) (now (bytes .entry))) r (now (room .exit)) (now (message .exit)) ⌝ }
 {
     let fed = collecting::feed(control_of(control), room, message, bytes);
     feed_answer(fed)
@@ -142,10 +139,8 @@ pub extern "C" fn gdl90_feed_tallied(
     bytes: &[u8],
     tally: &mut Tally,
 ) -> FeedAnswer
-    ensures { λ r. ⌜ (r ≡ ranAnswer (run (held (controlOf control) (now (room .entry))) (now (message .entry)) (now (bytes .entry))))
-        × (now (room .exit) ≡ run (held (controlOf control) (now (room .entry))) (now (message .entry)) (now (bytes .entry)) .last .state .room)
-        × (now (message .exit) ≡ run (held (controlOf control) (now (room .entry))) (now (message .entry)) (now (bytes .entry)) .last .message)
-        × (now (tally .exit) ≡ tallied (now (tally .entry)) (run (held (controlOf control) (now (room .entry))) (now (message .entry)) (now (bytes .entry)) .last .answer)) ⌝ }
+    ensures { λ r. ⌜ Feeds (feeding control (now (room .entry)) (now (message .entry)) (now (bytes .entry))) r (now (room .exit)) (now (message .exit))
+        × (now (tally .exit) ≡ tallied (now (tally .entry)) ((feeding control (now (room .entry)) (now (message .entry)) (now (bytes .entry))) .last .answer)) ⌝ }
 {
     let fed = gdl90_feed(control, room, message, bytes);
     let answer = answer_in(fed);

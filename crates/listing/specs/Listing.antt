@@ -52,7 +52,7 @@ answerLine l answer id len pos = line (digits (l .lines + 1) ∷ digits (l .afte
 unfoldable pub replyLine : Lister → Reply → List ℕ
 replyLine l nothing = []
 replyLine l (message m) = answerLine l (readingNumber (readMessage m)) (digits (getD m 0 0)) (digits (length m)) dash
-replyLine l (refused n at) = answerLine l n dash dash (digits at)
+replyLine l (refused n pos) = answerLine l n dash dash (digits pos)
 
 -- what a byte adds to the text
 unfoldable pub textOf : State → ℕ → List ℕ

@@ -8,12 +8,13 @@ use native.Mathlib.Omega.{arith}
 use lib.Dec.{eqb, ltb}
 use lib.ListN.{length, getD, set, length-set, getD-replicate}
 use lib.Seq.{getD-set-same, getD-set-other}
-use borrow.Author.Tests.{lt-ltb, le-ltb, eqb-true, eqb-false, ltb-true, ltb-false}
+use borrow.Author.Tests.{lt-ltb, le-ltb, eqb-true, eqb-false, ltb-false}
 use Rattle.collecting.specs.declared.Answer.{Answer}
 use Rattle.collecting.specs.declared.Answer.the-variants.{None, Accepted, Refused}
+use Rattle.collecting.specs.Stream.{reply}
 use Rattle.tallying.specs.declared.Tally.{Tally}
 use Rattle.tallying.specs.Tally.{hold, zero, raisedAt, tallied}
-use Rattle.tallying.specs.History.{Call, answerOf, called, answersLent, isNumber, given}
+use Rattle.tallying.specs.History.{Call, lastOf, called, answersLent, isNumber, given}
 use Rattle.tallying.specs.Claims.{Counted}
 
 module _ (t : Tally) (n : ℕ) where
@@ -46,11 +47,11 @@ after-one t m n s l = go (ltb m 6) (eqb n m) refl refl
     go false true p r = absurd (omega (arith, eqb-true n m r, ltb-false m 6 p))
     go false false p r = omega (arith, s .most n l)
 
-after-answer : (t : Tally) (a : Answer) (n : ℕ) → Sound t → n < 6 → Up t (tallied t a) n (cond (isNumber n a) 1 0)
-unfolding tallied
-after-answer t None n s l = omega (arith, s .most n l)
-after-answer t (Accepted k) n s l = after-one t 0 n s l
-after-answer t (Refused m at) n s l = after-one t m n s l
+after-answer : (t : Tally) (a : Answer) (m : List ℕ) (n : ℕ) → Sound t → n < 6 → Up t (tallied t a) n (cond (isNumber n (reply a m)) 1 0)
+unfolding tallied reply
+after-answer t None m n s l = omega (arith, s .most n l)
+after-answer t (Accepted k) m n s l = after-one t 0 n s l
+after-answer t (Refused k at) m n s l = after-one t k n s l
 
 raised-six : (t : Tally) (m : ℕ) → length (raisedAt t m .counts) ≡ length (t .counts)
 unfolding raisedAt
@@ -67,7 +68,7 @@ tallied-six t (Accepted k) = raised-six t 0
 tallied-six t (Refused m at) = raised-six t m
 
 sound : (t : Tally) (a : Answer) → Sound t → Sound (tallied t a)
-sound t a s = record { six = tallied-six t a ∙ s .six; most = λ n l. omega (arith, after-answer t a n s l) }
+sound t a s = record { six = tallied-six t a ∙ s .six; most = λ n l. omega (arith, after-answer t a [] n s l) }
 
 counts : (xs : List Call) (t : Tally) (n : ℕ) → Sound t → n < 6 → Up t (foldl called t xs) n (given n (answersLent xs))
 unfolding called answersLent given
@@ -75,8 +76,10 @@ counts [] t n s l = omega (arith, s .most n l)
 counts (x ∷ xs) t n s l = go (x .lent) (λ u. counts xs u n)
   where
     go : (lent : Bool) → ((u : Tally) → Sound u → n < 6 → Up u (foldl called u xs) n (given n (answersLent xs)))
-        → Up t (foldl called (cond lent (tallied t (answerOf x)) t) xs) n (given n (cond lent (answerOf x ∷ answersLent xs) (answersLent xs)))
-    go true rest = omega (arith, rest (tallied t (answerOf x)) (sound t (answerOf x) s) l, after-answer t (answerOf x) n s l)
+        → Up t (foldl called (cond lent (tallied t (lastOf x .answer)) t) xs) n (given n (cond lent (reply (lastOf x .answer) (lastOf x .message) ∷ answersLent xs) (answersLent xs)))
+    go true rest =
+        let a = lastOf x .answer in
+        omega (arith, rest (tallied t a) (sound t a s) l, after-answer t a (lastOf x .message) n s l)
     go false rest = rest t s l
 
 pub counted : Counted

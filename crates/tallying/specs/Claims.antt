@@ -5,8 +5,9 @@ use Prim.Native.Nat.{ℕ, _<_, min}
 use mathlib.Core.List.{List, foldl}
 use lib.ListN.{getD}
 use Rattle.collecting.specs.declared.Collector.{Collector}
+use Rattle.collecting.specs.Stream.{answers}
 use Rattle.tallying.specs.Tally.{hold, zero}
-use Rattle.tallying.specs.History.{Call, called, answersLent, given, answered, Stretches}
+use Rattle.tallying.specs.History.{Call, called, answersLent, given, Stretches}
 
 -- from a zeroed tally, after calls of whatever streams in whatever order, each count is the number of its answers given with the tally
 -- lent, or the hold where that is less
@@ -17,4 +18,4 @@ Counted = (xs : List Call) (n : ℕ) → n < 6 → getD (foldl called zero xs .c
 abbrev pub StreamCounted : Type 0
 StreamCounted =
     (c : Collector) (bs : List ℕ) (xs : List Call) → Stretches c bs xs
-    → (n : ℕ) → n < 6 → getD (foldl called zero xs .counts) n 0 ≡ min (given n (answered c bs)) hold
+    → (n : ℕ) → n < 6 → getD (foldl called zero xs .counts) n 0 ≡ min (given n (answers c bs)) hold

@@ -1,15 +1,13 @@
--- Calls of `feed`, with the tally lent and without (RULES 'Tally').
+-- Calls that feed bytes, with the tally lent and without (RULES 'Tally').
 -- Assumes nothing.
 use Prim.Native.Nat.{ℕ, _+_}
 use mathlib.Core.Bool.{Bool, true, false, cond}
 use mathlib.Core.List.{List, [], _∷_}
 use lib.Dec.{eqb}
 use lib.ListN.{take, drop}
-use Rattle.collecting.specs.declared.Answer.{Answer}
-use Rattle.collecting.specs.declared.Answer.the-variants.{None, Accepted, Refused}
 use Rattle.collecting.specs.declared.Collector.{Collector}
-use Rattle.collecting.specs.Step.{next, answerTo}
-use Rattle.collecting.specs.Stream.{run}
+use Rattle.collecting.specs.declared.Collected.{Collected}
+use Rattle.collecting.specs.Stream.{Reply, nothing, message, refused, reply, run}
 use Rattle.tallying.specs.declared.Tally.{Tally}
 use Rattle.tallying.specs.Tally.{tallied}
 
@@ -20,33 +18,28 @@ pub record Call : Type 0 where
   pub bytes : List ℕ
   pub lent : Bool
 
-abbrev pub answerOf : Call → Answer
-answerOf x = run (x .state) (x .message) (x .bytes) .last .answer
+abbrev pub lastOf : Call → Collected
+lastOf x = run (x .state) (x .message) (x .bytes) .last
 
 -- the tally after a call
 unfoldable pub called : Tally → Call → Tally
-called t x = cond (x .lent) (tallied t (answerOf x)) t
+called t x = cond (x .lent) (tallied t (lastOf x .answer)) t
 
 -- the answers of the calls that lent it
-unfoldable pub answersLent : List Call → List Answer
+unfoldable pub answersLent : List Call → List Reply
 answersLent [] = []
-answersLent (x ∷ xs) = cond (x .lent) (answerOf x ∷ answersLent xs) (answersLent xs)
+answersLent (x ∷ xs) = cond (x .lent) (reply (lastOf x .answer) (lastOf x .message) ∷ answersLent xs) (answersLent xs)
 
 -- whether an answer is the number n
-abbrev pub isNumber : ℕ → Answer → Bool
-isNumber n None = false
-isNumber n (Accepted k) = eqb n 0
-isNumber n (Refused m at) = eqb n m
+abbrev pub isNumber : ℕ → Reply → Bool
+isNumber n nothing = false
+isNumber n (message m) = eqb n 0
+isNumber n (refused k at) = eqb n k
 
 -- how many of the answers are
-unfoldable pub given : ℕ → List Answer → ℕ
+unfoldable pub given : ℕ → List Reply → ℕ
 given n [] = 0
-given n (a ∷ rest) = cond (isNumber n a) 1 0 + given n rest
-
--- what each byte of a stream is answered
-unfoldable pub answered : Collector → List ℕ → List Answer
-answered c [] = []
-answered c (b ∷ bs) = answerTo c b ∷ answered (next c b) bs
+given n (r ∷ rs) = cond (isNumber n r) 1 0 + given n rs
 
 -- the calls that feed one stream, in whatever stretches, the tally lent to each: a call is on the first of the bytes that are left, as many
 -- as are at hand, and the next goes on behind those that it took

@@ -40,7 +40,7 @@ impl Tallies {
             raw::feed_tallied(control, room, message, bytes, tally)
         });
         if fed.answered {
-            self.reference.record(fed.number);
+            self.reference.raise(fed.number);
         }
         self.proved.assert_guards();
         assert_eq!(self.counts(), self.reference.counts, "{fed:?}");

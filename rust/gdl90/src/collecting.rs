@@ -35,7 +35,7 @@ use crate::{Message, Tally};
 #[derive(Clone)]
 #[repr(align(1024))]
 pub struct Collector {
-    control: FeedControl,
+    kept: Kept,
     room: [u8; ROOM],
     message: [u8; MESSAGE_MAX],
     tally: Tally,
@@ -45,6 +45,37 @@ const _: () = assert!(
     std::mem::size_of::<Collector>() == std::mem::align_of::<Collector>(),
     "a collector may cross a page's border"
 );
+
+/// The control, its fields in another order than the struct for C has them. In that
+/// order they are copied together, which waits for each to have been stored by the
+/// call before.
+#[derive(Clone, Default)]
+#[repr(C)]
+struct Kept {
+    count: usize,
+    phase: u8,
+    stuffed: usize,
+}
+
+impl Kept {
+    #[inline]
+    fn of(control: FeedControl) -> Self {
+        Self {
+            count: control.count,
+            phase: control.phase,
+            stuffed: control.stuffed,
+        }
+    }
+
+    #[inline]
+    fn control(&self) -> FeedControl {
+        FeedControl {
+            count: self.count,
+            stuffed: self.stuffed,
+            phase: self.phase,
+        }
+    }
+}
 
 /// What [`Collector::feed`] did.
 #[derive(Clone, Copy, Debug, PartialEq, Eq)]
@@ -102,17 +133,14 @@ impl fmt::Display for Refusal {
     }
 }
 
-impl std::error::Error for Refusal {
-    fn source(&self) -> Option<&(dyn std::error::Error + 'static)> {
-        Some(&self.error)
-    }
-}
+// No source: its words are those of the error.
+impl std::error::Error for Refusal {}
 
 impl Collector {
     /// A collector before the first byte of a stream.
     pub fn new() -> Self {
         Self {
-            control: FeedControl::default(),
+            kept: Kept::default(),
             room: [0; ROOM],
             message: [0; MESSAGE_MAX],
             tally: Tally::default(),
@@ -138,13 +166,13 @@ impl Collector {
     #[inline]
     pub fn feed(&mut self, bytes: &[u8]) -> Fed<'_> {
         let fed = raw::feed_tallied(
-            self.control,
+            self.kept.control(),
             &mut self.room,
             &mut self.message,
             bytes,
             &mut self.tally,
         );
-        self.control = fed.control;
+        self.kept = Kept::of(fed.control);
         let message = &self.message[..fed.length];
         let position = fed.position;
         let refusal = |error| Refusal { error, position };
@@ -194,7 +222,7 @@ impl Default for Collector {
 impl fmt::Debug for Collector {
     fn fmt(&self, f: &mut fmt::Formatter<'_>) -> fmt::Result {
         f.debug_struct("Collector")
-            .field("control", &self.control)
+            .field("control", &self.kept.control())
             .field("tally", &self.tally)
             .finish_non_exhaustive()
     }

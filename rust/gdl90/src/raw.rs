@@ -101,9 +101,9 @@ pub fn frame(message: &[u8], out: &mut [u8]) -> FrameAnswer {
     unsafe { gdl90_frame(message.as_ptr(), message.len(), out.as_mut_ptr(), out.len()) }
 }
 
-/// Takes bytes until one closes a frame or there are no more: of 1, 2 and 3 the
-/// one that they meet first, then 4, 5. No state is unsafe: one that cannot be is
-/// taken as the fresh one (RULES 'Structs for C').
+/// Takes bytes until one closes a frame or there are no more. The number is, of 1,
+/// 2 and 3, the one that the bytes meet first; then 4, 5. No state is unsafe: one
+/// that cannot be is taken as the fresh one (RULES 'Structs for C').
 #[inline]
 pub fn feed(
     control: FeedControl,

@@ -174,7 +174,7 @@ impl Default for Collector {
 }
 
 /// Checks 4, then 5; nothing between two flags is no answer.
-fn check(unstuffed: &[u8]) -> Result<Answer<'_>, u8> {
+pub(crate) fn check(unstuffed: &[u8]) -> Result<Answer<'_>, u8> {
     match unstuffed {
         [] => Ok(Answer::None),
         [_] | [_, _] => Err(TOO_SHORT),

@@ -1,10 +1,7 @@
 //! Collecting as RULES 'Collecting' has it, one step from any state, also from one
 //! that no bytes lead to.
 
-use crate::collecting::{
-    BAD_ESCAPE, ESCAPE_BEFORE_FLAG, ROOM, SEQUENCE_DIFFERS, TOO_LONG, TOO_SHORT,
-};
-use crate::fcs::check_sequence;
+use crate::collecting::{check, Answer, BAD_ESCAPE, ESCAPE_BEFORE_FLAG, ROOM, TOO_LONG};
 use crate::framing::{ESCAPE, ESCAPE_FLIP, FLAG, MESSAGE_MAX};
 
 /// The largest position: a 439th byte is met at its second, where all are escaped.
@@ -127,29 +124,23 @@ impl State {
     }
 
     fn reply(&self) -> Option<Reply> {
-        let number = match (self.phase, self.count) {
-            (phase::LEAD_IN, _) | (phase::OPEN, 0) => return None,
-            (phase::OPEN, 1 | 2) => TOO_SHORT,
-            (phase::OPEN, _) => self.check(),
-            (phase::ESCAPE, _) => ESCAPE_BEFORE_FLAG,
-            (phase::BAD_ESCAPE, _) => BAD_ESCAPE,
-            _ => TOO_LONG,
+        let checked = match self.phase {
+            phase::LEAD_IN => return None,
+            phase::OPEN => check(&self.room[..self.count]),
+            phase::ESCAPE => Err(ESCAPE_BEFORE_FLAG),
+            phase::BAD_ESCAPE => Err(BAD_ESCAPE),
+            _ => Err(TOO_LONG),
+        };
+        let (number, length, position) = match checked {
+            Ok(Answer::Message(message)) => (0, message.len(), 0),
+            Ok(_) => return None,
+            Err(number) => (number, 0, self.stuffed),
         };
         Some(Reply {
             number,
-            length: if number == 0 { self.count - 2 } else { 0 },
-            position: if number == 0 { 0 } else { self.stuffed },
+            length,
+            position,
         })
-    }
-
-    /// 0 where the last two of three bytes or more are the sequence of the others.
-    fn check(&self) -> u8 {
-        let (message, sequence) = self.room[..self.count].split_at(self.count - 2);
-        if check_sequence(message).to_le_bytes() == sequence {
-            0
-        } else {
-            SEQUENCE_DIFFERS
-        }
     }
 }
 

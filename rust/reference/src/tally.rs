@@ -1,4 +1,4 @@
-//! How often collecting gave each of its answers (RULES 'Collecting').
+//! How often collecting gave each of its answers (RULES 'Tally').
 
 /// A count for each answer of collecting, 0 to 5: that of its answers since the
 /// counts were zero, up to the largest number that it holds.
@@ -9,7 +9,7 @@ pub struct Tally {
 
 impl Tally {
     /// Takes an answer's number, 0 to 5. A count that is full stays.
-    pub fn record(&mut self, number: u8) {
+    pub fn raise(&mut self, number: u8) {
         let count = &mut self.counts[usize::from(number)];
         *count = count.saturating_add(1);
     }
@@ -27,7 +27,7 @@ mod tests {
     fn tally(stream: &[u8]) -> Tally {
         let mut tally = Tally::default();
         for kept in answers(stream) {
-            tally.record(kept.number);
+            tally.raise(kept.number);
         }
         tally
     }
@@ -38,7 +38,7 @@ mod tests {
         let behind = [8, 1, u32::MAX, u32::MAX, (1 << 31) + 1, 65_536];
         for number in 0..=5 {
             let mut tally = Tally { counts: before };
-            tally.record(number);
+            tally.raise(number);
             let at = usize::from(number);
             let mut expected = before;
             expected[at] = behind[at];
@@ -52,7 +52,7 @@ mod tests {
             counts: [4_294_967_293; 6],
         };
         for expected in [4_294_967_294, 4_294_967_295, 4_294_967_295, 4_294_967_295] {
-            (0..=5).for_each(|number| tally.record(number));
+            (0..=5).for_each(|number| tally.raise(number));
             assert_eq!(tally.counts, [expected; 6]);
         }
     }

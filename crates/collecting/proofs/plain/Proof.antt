@@ -2,14 +2,16 @@
 -- Assumes nothing.
 use native.Mathlib.Omega.{arith}
 use Prim.Native.Nat.{_+_, _-_, _≤_}
-use Rattle.collecting.specs.Stretch.{opened, Passed}
+use Rattle.collecting.specs.declared.Phase.the-variants.{Open}
+use Rattle.collecting.specs.Step.{stateIn}
+use Rattle.collecting.specs.Stretch.{Passed}
 use Rattle.collecting.proofs.Filling.{plain-none, plain-one}
 use borrow.Author.Needs.{needs}
 use Rattle.collecting.proofs.plain.Statement.{statement}
 use Rattle.collecting.proofs.plain.Tie as tie
 
 abbrev Inv-loop : tie.InvT-loop
-Inv-loop n at room₀ bytes end i₀ room i = (i ≤ end) × Passed (opened n at room₀) bytes i (opened (n + i) (at + i) room)
+Inv-loop n at room₀ bytes end i₀ room i = (i ≤ end) × Passed (stateIn Open n at room₀) bytes i (stateIn Open (n + i) (at + i) room)
 
 abbrev μ-loop : tie.MeasureT-loop
 μ-loop n at room₀ bytes end i₀ room i = end - i

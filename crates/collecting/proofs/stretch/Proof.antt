@@ -3,9 +3,10 @@
 use mathlib.Core.Path.{sym, ap, subst}
 use Prim.Native.Nat.{ℕ, _+_}
 use Rattle.collecting.specs.declared.Phase.{Phase}
+use Rattle.collecting.specs.declared.Phase.the-variants.{Open}
 use Rattle.collecting.specs.declared.Collector.{Collector}
-use Rattle.collecting.specs.Step.{held, turned}
-use Rattle.collecting.specs.Stretch.{opened, Passed}
+use Rattle.collecting.specs.Step.{held, stateIn}
+use Rattle.collecting.specs.Stretch.{Passed}
 use Rattle.collecting.proofs.Cases.{stays}
 use Rattle.collecting.proofs.Filling.{passed-none, passed-stuck}
 use borrow.Author.Needs.{needs}
@@ -20,8 +21,8 @@ returns c =
     let a = c .before .before .before .before .before .args in
     let p = c .plain in (
       record { count = p .ensures .0 .0; stuffed = p .ensures .0 .1 },
-      subst (λ (s : Collector). Passed s (a .bytes .now) (p .result) (opened (a .control .count + p .result) (a .control .stuffed + p .result) (p .last .1 .1 .0)))
-          (ap (λ (p : Phase). turned p (a .control .stuffed) (held (a .control) (a .room .now))) (sym (c .before .before .enum-told .given .1))) (p .ensures .1),
+      subst (λ (s : Collector). Passed s (a .bytes .now) (p .result) (stateIn Open (a .control .count + p .result) (a .control .stuffed + p .result) (p .last .1 .1 .0)))
+          (ap (λ (p : Phase). stateIn p (a .control .count) (a .control .stuffed) (a .room .now)) (sym (c .before .before .enum-told .given .1))) (p .ensures .1),
     )
 
 returns-2 : tie.Need-returns-2

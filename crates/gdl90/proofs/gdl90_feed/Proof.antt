@@ -24,7 +24,7 @@ returns c =
     let d = f .before .before .before in
     let a = d .before .before .args in
     let e = f .feed .ensures ∙ ap (λ (c : Control). run (held c (a .room .now)) (a .message .now) (a .bytes .now)) (d .control-of .ensures) in
-    (c .feed-answer .ensures ∙ ap ranAnswer e, ap (λ (r : Run). r .last .state .room) e, ap (λ (r : Run). r .last .message) e)
+    record { answers = c .feed-answer .ensures ∙ ap ranAnswer e; leaves-room = ap (λ (r : Run). r .last .state .room) e; leaves-message = ap (λ (r : Run). r .last .message) e }
 
 pub gdl90-feed-spec : {M : Type 1} → statement M
 gdl90-feed-spec =

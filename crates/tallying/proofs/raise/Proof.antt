@@ -1,4 +1,4 @@
--- `tallying::record` meets its contract: a walk of its MIR, by hand, since the borrow checker covers no reference to a struct. The borrow is
+-- `tallying::raise` meets its contract: a walk of its MIR, by hand, since the borrow checker covers no reference to a struct. The borrow is
 -- opened, the tally is copied out, `raised` is called with it, its result is stored, and the borrow is closed at that tally.
 -- Assumes nothing.
 use mathlib.Core.Path.{_≡_, refl}

@@ -376,36 +376,20 @@ impl Answers {
 
 /// The function for C, without a tally.
 #[inline(never)]
-fn rattle_collect(stream: &[u8]) -> Answers {
-    rattle_collect_by(stream, raw::feed)
-}
-
-#[inline(never)]
-fn rattle_collect_tallied(stream: &[u8]) -> (Answers, [u32; 6]) {
-    let mut tally = raw::Tally::default();
-    let answers = rattle_collect_by(stream, |control, room, message, bytes| {
-        raw::feed_tallied(control, room, message, bytes, &mut tally)
-    });
-    (answers, tally.counts)
-}
-
-#[inline(always)]
-fn rattle_collect_by(
-    mut stream: &[u8],
-    mut feed: impl FnMut(
-        raw::FeedControl,
-        &mut [u8; raw::ROOM],
-        &mut [u8; MESSAGE_MAX],
-        &[u8],
-    ) -> raw::FeedAnswer,
-) -> Answers {
+fn rattle_collect(mut stream: &[u8]) -> Answers {
     let mut answers = Answers::default();
     let mut lent = Lent([0; raw::ROOM], [0; MESSAGE_MAX]);
     let Lent(room, message) = &mut lent;
-    let mut control = raw::FeedControl::default();
+    // Kept apart, as `gdl90::Collector` keeps them.
+    let (mut count, mut phase, mut stuffed) = (0, 0, 0);
     while !stream.is_empty() {
-        let fed = feed(control, room, message, stream);
-        control = fed.control;
+        let control = raw::FeedControl {
+            count,
+            stuffed,
+            phase,
+        };
+        let fed = raw::feed(control, room, message, stream);
+        (count, phase, stuffed) = (fed.control.count, fed.control.phase, fed.control.stuffed);
         stream = &stream[fed.taken..];
         match (fed.answered, fed.number) {
             (false, _) => {}
@@ -414,6 +398,23 @@ fn rattle_collect_by(
         }
     }
     answers
+}
+
+/// The crate for Rust, which always lends its tally.
+#[inline(never)]
+fn rattle_collect_tallied(mut stream: &[u8]) -> (Answers, [u32; 6]) {
+    let mut answers = Answers::default();
+    let mut collector = gdl90::Collector::new();
+    while !stream.is_empty() {
+        let fed = collector.feed(stream);
+        stream = &stream[fed.taken..];
+        match fed.answer {
+            None => {}
+            Some(Ok(message)) => answers.accept(message),
+            Some(Err(refusal)) => answers.refuse(refusal.error.number(), refusal.position),
+        }
+    }
+    (answers, collector.tally().counts)
 }
 
 /// Within one page, as `gdl90::Collector` is.
@@ -445,8 +446,8 @@ fn reference_collect_tallied(stream: &[u8]) -> (Answers, [u32; 6]) {
     feed_whole(stream, |answer| {
         match answer {
             Answer::None => {}
-            Answer::Message(_) => tally.record(0),
-            Answer::Refused { number, .. } => tally.record(number),
+            Answer::Message(_) => tally.raise(0),
+            Answer::Refused { number, .. } => tally.raise(number),
         }
         answers.add_reference(answer);
     });
