@@ -36,8 +36,7 @@ pub enum Answer {
     None,
     // 0, with a message of so many bytes
     Accepted(usize),
-    // the number, 1 to 5, and the position: how many stuffed bytes since the opening flag had been taken when
-    // the fault was met
+    // the number, 1 to 5, and the position: the stuffed bytes of the frame up to where it broke
     Refused(u8, usize),
 }
 

@@ -112,7 +112,7 @@ pub struct FeedAnswer {
     pub number: u8,
     // the message's, with number 0
     pub length: usize,
-    // with number 1 to 5 how many stuffed bytes since the opening flag had been taken when the fault was met
+    // where the frame broke, with number 1 to 5
     pub position: usize,
 }
 
