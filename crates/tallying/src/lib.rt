@@ -1,4 +1,4 @@
-// A tally that the caller lends and we alter: how often each collecting answer was given (RULES 'Tally').
+// A tally of collecting's answers, lent by the caller: how often each was given (RULES 'Tally').
 ghost use mathlib.Core.Path.{_≡_};
 ghost use Prim.Native.Nat.{_+_, min};
 ghost use Rattle.tallying.specs.Tally.{hold, zero, raisedAt, tallied};
@@ -19,7 +19,7 @@ impl Tally {
     }
 }
 
-// The tally once an answer is given: a single count up by one.
+// The tally once an answer is given: its count is one higher, or holds; the others stay.
 pub fn raised(tally: Tally, answer: Answer) -> Tally
     ensures { λ r. ⌜ r ≡ tallied tally answer ⌝ }
 {
