@@ -1,4 +1,6 @@
 // Height above terrain (001 §3.7) and ownship geometric altitude (001 §3.8).
+#![tactic(auto)]
+
 ghost use Rattle.std.specs.Prelude.{◌≡◌, cond, ◌+◌, ◌*◌, ◌≤◌, ◌<◌, length};
 ghost use Rattle.numbers.specs.Signed.{signed_in, field_of};
 ghost use Rattle.codec.specs.Writing.{Wrote};

@@ -1,4 +1,6 @@
 // Collecting a whole slice with the state by value, to measure what that layer costs.
+#![tactic(auto)]
+
 ghost use Rattle.std.specs.Prelude.{◌≡◌, cond};
 ghost use Rattle.collecting.specs.Step.{fresh};
 ghost use Rattle.collecting.specs.Stream.{is_answered};

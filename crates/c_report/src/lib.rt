@@ -1,4 +1,6 @@
 // A report as a struct of numbers, for callers that know no enums, such as C's, and the typed report that it stands for.
+#![tactic(auto)]
+
 ghost use Rattle.std.specs.Prelude.{◌≡◌};
 ghost use Rattle.c_report.specs.Flat.{position_from, altitude_from, track_number, track_from, speed_from, climb_from, report_from};
 

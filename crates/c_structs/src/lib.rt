@@ -1,4 +1,6 @@
 // The typed messages but for reports as structs of numbers, for callers that know no enums, such as C's, there and back.
+#![tactic(auto)]
+
 ghost use Rattle.std.specs.Prelude.{◌≡◌};
 ghost use Rattle.c_structs.specs.Flat.{reception_mark, reception_steps, reception_from, flat_uplink, uplink_from};
 ghost use Rattle.c_structs.specs.Flat.{height_mark, height_feet, height_from, flat_height, terrain_from, merit_mark, merit_metres, merit_from, flat_geometric, geometric_from};

@@ -1,4 +1,6 @@
 // Packet captures, told from recordings by how their files begin (RULES 'Notes').
+#![tactic(auto)]
+
 ghost use Rattle.std.specs.Prelude.{◌≡◌};
 ghost use Rattle.captures.specs.Captures.{is_capture};
 ghost use Rattle.captures.specs.Captures.{start, begun};

@@ -1,4 +1,6 @@
 // The code characters of weather texts (001 §5.2.2.2; RULES 'Weather texts').
+#![tactic(auto)]
+
 ghost use Rattle.std.specs.Prelude.{◌≡◌};
 ghost use Rattle.characters.specs.Characters.{is_listed, are_listed};
 

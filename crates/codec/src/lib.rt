@@ -1,4 +1,6 @@
 // What the message kinds share: the checks of id and length, and writing bytes to lent memory.
+#![tactic(auto)]
+
 ghost use Rattle.std.specs.Prelude.{true, ◌≡◌};
 ghost use Rattle.codec.specs.Reading.{misfit};
 ghost use Rattle.codec.specs.Writing.{Wrote};

@@ -1,4 +1,6 @@
 // Collecting frames from a byte stream (001 §2.2.1; RULES 'Collecting').
+#![tactic(auto)]
+
 ghost use Rattle.std.specs.Prelude.{◌≡◌, ◌++◌, ◌+◌, ◌-◌, ◌*◌, ◌≤◌, ◌<◌, min, length, take, replicate};
 ghost use Rattle.fcs.specs.Fcs.{fcs};
 ghost use Rattle.collecting.specs.declared.Phase.TheVariants.{Open};

@@ -1,6 +1,8 @@
 // Collects the recording on standard input, in one piece, byte by byte and in pieces of odd sizes, and
 // prints each answer: where its closing flag stands, the number, and the message or the position. The recording and
 // the text that is stored beside this program come from rust/reference.
+#![tactic(auto)]
+
 ghost use Rattle.std.specs.Prelude.{◌+◌, ◌≤◌, length};
 
 use collecting::{Answer, Control};

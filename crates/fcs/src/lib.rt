@@ -1,4 +1,6 @@
 // The frame check sequence (001 §2.2.3), from 16 words (RULES 'Check sequence').
+#![tactic(auto)]
+
 ghost use Rattle.std.specs.Prelude.{◌≡◌, ◌%◌, length, take};
 ghost use Rattle.fcs.specs.Fcs.{fcs};
 ghost use Rattle.fcs.specs.Words.{word_of, by_halves};

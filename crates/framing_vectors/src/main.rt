@@ -2,6 +2,8 @@
 // A record of the input is the message's length and the output's, two bytes each, high byte first,
 // and then the message. The output is full of 0xAA before. The records and the text that is stored
 // beside this program come from rust/reference.
+#![tactic(auto)]
+
 ghost use Rattle.std.specs.Prelude.{◌+◌, ◌≤◌, ◌<◌, length};
 
 use framing::Framed;

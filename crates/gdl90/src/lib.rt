@@ -1,4 +1,6 @@
 // The library's functions for C, and for Rust by way of C: thin, and with the library's own promises.
+#![tactic(auto)]
+
 ghost use Rattle.std.specs.Prelude.{◌≡◌, length};
 ghost use Rattle.numbers.specs.Lent.{written};
 ghost use Rattle.fcs.specs.Fcs.{fcs};

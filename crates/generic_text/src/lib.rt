@@ -1,4 +1,6 @@
 // The Generic Text product of an information frame (001 §5.2; RULES 'Weather texts'): an APDU header, then characters of six bits.
+#![tactic(auto)]
+
 ghost use Rattle.std.specs.Prelude.{◌≡◌, true, [], ◌∷◌, ◌+◌, ◌-◌, ◌%◌, ◌^◌, ◌≤◌, ◌<◌, min, length, replicate};
 ghost use Rattle.numbers.specs.Lent.{written, Stored};
 ghost use Rattle.characters.specs.Characters.{code_characters, code_of, are_listed};

@@ -1,4 +1,6 @@
 // The heartbeat (001 §3.1): what the receiver says of itself.
+#![tactic(auto)]
+
 ghost use Rattle.std.specs.Prelude.{◌≡◌, length};
 ghost use Rattle.codec.specs.Writing.{Wrote};
 ghost use Rattle.heartbeat.specs.Heartbeat.{time_of, count_of, heartbeat_in, good_heartbeat, heartbeat_bytes, heartbeat_refused, heartbeat_read, HeartbeatBits};

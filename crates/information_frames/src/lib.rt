@@ -1,4 +1,6 @@
 // The information frames of an uplink payload (001 §4; RULES 'Uplink payloads'): 8 bytes of header, then 424 of application data.
+#![tactic(auto)]
+
 ghost use Rattle.std.specs.Prelude.{◌≡◌, cond, ◌++◌, ◌+◌, ◌-◌, ◌≤◌, length, take, replicate};
 ghost use Rattle.std.proofs.Math.Seq.{paste};
 ghost use Rattle.information_frames.specs.Frames.{headed, with_valid_bit};

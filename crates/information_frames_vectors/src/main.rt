@@ -8,6 +8,8 @@
 // the number behind the last is answered. Of M also what reading each frame's text answers, the number and,
 // where it is 0, hours, minutes, padding, length and the check sequence of the room. Of A it prints the number and the check sequence of the payload
 // that is left. The records and the text that is stored beside this program come from rust/reference.
+#![tactic(auto)]
+
 ghost use Rattle.std.specs.Prelude.{◌+◌, ◌≤◌, ◌<◌, length};
 
 use generic_text::TextReading;

@@ -1,4 +1,6 @@
 // The initialization (001 §3.2): what the receiver is told.
+#![tactic(auto)]
+
 ghost use Rattle.std.specs.Prelude.{◌≡◌};
 ghost use Rattle.codec.specs.Writing.{Wrote};
 ghost use Rattle.initialization.specs.Initialization.{good_initialization, initialization_bytes, initialization_refused, initialization_read};

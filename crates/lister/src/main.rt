@@ -1,4 +1,6 @@
 // Lists the frames of standard input on standard output (RULES 'Listing', 'Notes').
+#![tactic(auto)]
+
 use libc::{STDERR_FILENO, STDIN_FILENO, STDOUT_FILENO};
 use listing::Lister;
 

@@ -1,4 +1,6 @@
 // The listing of a byte stream as text, a stretch of input at a time (RULES 'Listing').
+#![tactic(auto)]
+
 ghost use Rattle.std.specs.Prelude.{◌≡◌, cond, not, ◌++◌, ◌∷◌, [], ◌+◌, ◌-◌, ◌≤◌, ◌<◌, min, length, take};
 ghost use Rattle.numbers.specs.Lent.{Stored};
 ghost use Rattle.collecting.specs.Stream.{reply, unflagged};

@@ -1,5 +1,7 @@
 // The seven kinds of message as typed values (001 §3; RULES 'Messages'). There is no code here: the crates above
 // read and write them. Marks such as none or over are cases of their own; bits named reserved or spare are carried.
+#![tactic(auto)]
+
 use units::{GeometricSteps, PressureSteps, TerrainFeet};
 
 // 001 §3.1

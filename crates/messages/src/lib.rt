@@ -1,4 +1,6 @@
 // Reading and writing a message of whatever kind (001 §3; RULES 'Messages').
+#![tactic(auto)]
+
 ghost use Rattle.std.specs.Prelude.{◌≡◌};
 ghost use Rattle.messages.specs.Message.{kind_of, kind_in, read_as, as_reading, read_message, WroteMessage};
 

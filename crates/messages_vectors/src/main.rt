@@ -2,6 +2,8 @@
 // the bytes that writing them gives. A record of the input is the message's length, two bytes, high byte
 // first, and then the message. The records and the text that is stored beside this program come from
 // rust/reference.
+#![tactic(auto)]
+
 ghost use Rattle.std.specs.Prelude.{◌+◌, ◌≤◌, ◌<◌, length};
 
 use codec::Written;

@@ -1,4 +1,6 @@
 // What the programs print with, besides `io`.
+#![tactic(auto)]
+
 ghost use Rattle.std.specs.Prelude.{◌≡◌, min, length};
 
 // The first n bytes, or all where there are fewer, as two hexadecimal digits each; answers how many

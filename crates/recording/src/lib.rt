@@ -2,6 +2,8 @@
 // bytes that come one by one. `part_end` cuts at a flag, `unstuff` and `check` follow, `answer_part` takes the three for one
 // part, and `measure` and `write` go over all parts. In a contract `now x.entry` is what x holds at the call, and
 // `now x.exit` what it holds at the return.
+#![tactic(auto)]
+
 ghost use Rattle.std.specs.Prelude.{◌≡◌, false, ◌+◌, ◌≤◌, ◌<◌, length, drop};
 ghost use Rattle.numbers.specs.Lent.{written, Stored};
 ghost use Rattle.framing.specs.Stuffing.{Flagless};

@@ -1,4 +1,6 @@
 // Ownship and traffic reports (001 §3.4, §3.5): two kinds, of one format.
+#![tactic(auto)]
+
 ghost use Rattle.std.specs.Prelude.{◌≡◌, ◌&&◌, ◌+◌, ◌-◌, ◌<◌, ◌≤◌, length};
 ghost use Rattle.codec.specs.Writing.{Wrote};
 ghost use Rattle.numbers.specs.Signed.{signed_in, field_of};

@@ -1,4 +1,6 @@
 // A tally of collecting's answers, lent by the caller: how often each was given (RULES 'Tally').
+#![tactic(auto)]
+
 ghost use Rattle.std.specs.Prelude.{◌≡◌, ◌+◌, min};
 ghost use Rattle.tallying.specs.Tally.{hold, zero, raised_at, tallied};
 

@@ -1,5 +1,7 @@
 // The three units of altitude, kept apart, steps of latitude and longitude in degrees, and times of day
 // (RULES 'Units', 'Degrees', 'Time of day').
+#![tactic(auto)]
+
 ghost use Rattle.std.specs.Prelude.{◌≡◌};
 ghost use Rattle.std.specs.Int.Signed.{mag};
 ghost use Rattle.units.specs.Degrees.{degrees, in_degrees, ExactlyAt};

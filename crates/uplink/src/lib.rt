@@ -1,4 +1,6 @@
 // The uplink message (001 §3.3; RULES 'Uplink'): its time of reception, and its payload as a part of it.
+#![tactic(auto)]
+
 ghost use Rattle.std.specs.Prelude.{◌≡◌, ◌≤◌, length};
 ghost use Rattle.uplink.specs.Reception.{reception_of, reception_in, good_reception, reception_number};
 ghost use Rattle.uplink.specs.Uplink.{head_bytes, uplink_refused, uplink_read, PayloadPart, WroteUplink};

@@ -1,5 +1,7 @@
 // The information frames of an uplink message: its payload, the message from its fifth byte on, is passed as a part to the walk
 // (RULES 'Uplink', 'Uplink payloads').
+#![tactic(auto)]
+
 ghost use Rattle.std.specs.Prelude.{◌≡◌};
 ghost use Rattle.numbers.specs.Lent.{behind};
 ghost use Rattle.uplink.specs.Uplink.{payload_start, payload_of};

@@ -1,5 +1,7 @@
 // The weather texts of an uplink message: an information frame's data are passed as a part to the reading of a text
 // (RULES 'Uplink payloads', 'Weather texts').
+#![tactic(auto)]
+
 ghost use Rattle.generic_text.specs.Answers.{ReadText};
 ghost use Rattle.uplink_text.specs.Texts.{message_text};
 
