@@ -10,14 +10,14 @@ const LEAST: u64 = 0x100000000;
 
 // Before the first byte.
 pub fn start() -> u64
-    ensures { result ≡ Captures·start }
+    ensures { result ≡ start }
 {
     1
 }
 
 // A 1 and the first four bytes, high first, as one number: from that of the bytes so far, with these behind them.
 pub fn begun(before: u64, bytes: &[u8]) -> u64
-    ensures { result ≡ Captures·begun before bytes.now }
+    ensures { result ≡ begun before bytes.now }
 {
     let mut n = before;
     let mut i = 0;

@@ -1,0 +1,16 @@
+-- `captures::begun` meets its contract. The loop's invariant: the bytes that are left lead to the number of all.
+-- Assumes nothing.
+use mathlib.Core.Path.{◌≡◌, sym, ◌∙◌}
+use Prim.Native.Nat.{◌≤◌, ◌-◌}
+use native.Mathlib.Omega.{arith}
+use lib.ListN.{length, drop}
+use Rattle.captures.specs.Captures.{begun}
+use Rattle.captures.proofs.Telling.{full, next, none_left}
+use borrow.Author.Rules.{rules}
+use Rattle.captures.proofs.begun.Given as goal
+
+abbrev pub invariant-loop-i : goal.invariant-loop-i
+invariant-loop-i l = (l.i ≤ length l.bytes) × (begun l.n (drop l.i l.bytes) ≡ begun l.before l.bytes)
+
+abbrev pub decreases-loop-i : goal.decreases-loop-i
+decreases-loop-i l = length l.bytes - l.i
