@@ -40,7 +40,7 @@ pub enum TextReading {
 }
 
 // Where reading stands: the place of the next byte, and the last byte with how many of its low bits are left.
-#[derive(Drop)]
+#[derive(Clone, Copy)]
 struct Cursor {
     at: usize,
     last: u8,
@@ -64,7 +64,7 @@ struct Run {
 }
 
 // Four characters, a 0 for a code that is none, and where reading stands behind them.
-#[derive(Drop)]
+#[derive(Clone, Copy)]
 struct Four {
     a: u8,
     b: u8,
