@@ -1,7 +1,6 @@
 -- `generic_text::expand` meets its contract. The loop's invariant: what is left is to store the text that is left.
 -- Assumes nothing.
 use mathlib.Core.Path.{◌∙◌}
-use lib.ListN.{length-replicate}
 use Rattle.generic_text.proofs.Expanding.{expand_more, expand_end}
 use Rattle.generic_text.proofs.expand.Goals as goal
 
@@ -13,4 +12,4 @@ loop-s-preserved c =
     let h = c.next_run-run.ensures.run c.if-run-eq0.false in
     let l = c.loop-s in
     let p = c.fill-at in
-    (p.auto.out ∙ l.invariant.0, expand_more _ l.invariant.1 _ c.next_run-run.result.times (length-replicate _ _) h p.ensures)
+    (p.auto.out ∙ l.invariant.0, expand_more _ l.invariant.1 _ h p.ensures)
