@@ -11,4 +11,4 @@ use Rattle.altitudes.proofs.geometric_in.Goals as goal
 pub returns : goal.returns
 unfolding geometric_in
 returns c =
-    simp (back w16 c.signed-steps.result c.signed-steps.type-inv ∙ c.signed-steps.ensures ∙ ap (signed_in 0x8000) c.word.ensures, c.merit_of-merit.ensures ∙ ap merit_of c.word-2.ensures)
+    simp (back w16 c.signed-steps.result c.signed-steps.type_inv ∙ c.signed-steps.ensures ∙ ap (signed_in 0x8000) c.word.ensures, c.merit_of-merit.ensures ∙ ap merit_of c.word-2.ensures)

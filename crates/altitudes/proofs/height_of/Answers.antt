@@ -18,5 +18,5 @@ returns-then-n-eq32768 c = simp (eq-eqb _ 0x8000 c.if-n-eq32768.true)
 pub returns : goal.returns
 unfolding height_of
 returns c =
-    ap {B = Height} (λ (z : ℤ). Feet (record { feet = z })) (back w16 c.signed.result c.signed.type-inv ∙ c.signed.ensures)
+    ap {B = Height} (λ (z : ℤ). Feet (record { feet = z })) (back w16 c.signed.result c.signed.type_inv ∙ c.signed.ensures)
     ∙ simp (ne_eqb _ 0x8000 c.if-n-eq32768.false)

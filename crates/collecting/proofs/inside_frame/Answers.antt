@@ -7,23 +7,16 @@ use Rattle.collecting.proofs.Cases.{open_escape, open_other, escape_any, stays}
 use borrow.Author.Rules.{rules}
 use Rattle.collecting.proofs.inside_frame.Goals as goal
 
-at_entry : tie.Start → Collector
-at_entry s = held s.args.control s.args.room.now
-
 pub returns-then-byte-eq125 : goal.returns-then-byte-eq125
-unfolding at_entry
-returns-then-byte-eq125 c = open_escape (at_entry c) c.args.byte c.in-Open.is c.if-byte-eq125.true
+returns-then-byte-eq125 c = open_escape (held c.args.control c.args.room.now) c.args.byte c.in-Open.is c.if-byte-eq125.true
 
 pub returns-else-byte-eq125 : goal.returns-else-byte-eq125
-unfolding at_entry
 returns-else-byte-eq125 c =
-    c.collect.ensures ∙ open_other (at_entry c) c.args.byte c.in-Open.is c.if-byte-eq125.false
+    c.collect.ensures ∙ open_other (held c.args.control c.args.room.now) c.args.byte c.in-Open.is c.if-byte-eq125.false
 
 pub returns-in-Escape : goal.returns-in-Escape
-unfolding at_entry
 returns-in-Escape c =
-    c.after_escape.ensures ∙ escape_any (at_entry c) c.args.byte c.in-Escape.is
+    c.after_escape.ensures ∙ escape_any (held c.args.control c.args.room.now) c.args.byte c.in-Escape.is
 
 pub returns-in_default : goal.returns-in_default
-unfolding at_entry
-returns-in_default c = sym (stays c.args.control.phase c.in_default.is (at_entry c) c.args.byte)
+returns-in_default c = sym (stays c.args.control.phase c.in_default.not-Open c.in_default.not-Escape (held c.args.control c.args.room.now) c.args.byte)

@@ -20,4 +20,4 @@ returns-in_default c =
     let a = c.args in
     let s = held a.control a.room.now in
     let h = c.requires in
-    record { within = h; passed = subst (λ (k : ℕ). Passed s a.bytes.now k s) (sym c.before_flag.ensures) (passed_stuck s a.bytes.now h (stays a.control.phase c.in_default.is s)) }
+    record { within = h; passed = subst (λ (k : ℕ). Passed s a.bytes.now k s) (sym c.before_flag.ensures) (passed_stuck s a.bytes.now h (stays a.control.phase c.in_default.not-Open c.in_default.not-Escape s)) }

@@ -15,7 +15,7 @@ stretch-s-requires c = subst (λ (s : Collector). Within s.control) (sym c.withi
 pub returns-then-b-ne126 : goal.returns-then-b-ne126
 returns-then-b-ne126 c =
     let p = c.stretch-s.ensures in
-    record { passed = passed_taken c.within-usable.ensures (omega arith) (passed_one p.1 p.0 (omega arith) c.if-b-ne126.true c.inside_frame.ensures); le_taken = omega arith }
+    record { passed = passed_taken c.within-usable.ensures (omega arith) (passed_one p.passed p.within (omega arith) c.if-b-ne126.true c.inside_frame.ensures); le_taken = omega arith }
 
 pub returns-else-b-ne126 : goal.returns-else-b-ne126
 returns-else-b-ne126 c =

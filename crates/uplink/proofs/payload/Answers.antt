@@ -13,6 +13,10 @@ pub slice_bounds-result-count-2 : goal.slice_bounds-result-count-2
 slice_bounds-result-count-2 c =
     omega (arith, sized _ c.read_uplink-read.ensures c.if-read-ne0.false)
 
+pub slice_bounds-result-start-2 : goal.slice_bounds-result-start-2
+slice_bounds-result-start-2 c =
+    omega (arith, sized _ c.read_uplink-read.ensures c.if-read-ne0.false)
+
 pub returns : goal.returns
 returns c =
     let m = c.args.message.now in
