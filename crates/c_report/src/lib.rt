@@ -8,7 +8,7 @@ use message_types::{Altitude, CallSign, Climb, Position, Report, Speed, TrackKin
 use units::PressureSteps;
 
 #[repr(C)]
-#[derive(Drop)]
+#[derive(Clone, Copy)]
 pub struct FlatReport {
     pub alert: u8,
     pub address_type: u8,
@@ -35,7 +35,7 @@ pub struct FlatReport {
 }
 
 #[repr(C)]
-#[derive(Drop)]
+#[derive(Clone, Copy)]
 pub struct FlatReportRead {
     pub number: u8,
     pub report: FlatReport,

@@ -9,21 +9,21 @@ use message_types::{GeometricAltitude, Height, HeightAboveTerrain, Merit, Recept
 use units::{GeometricSteps, TerrainFeet};
 
 #[repr(C)]
-#[derive(Drop)]
+#[derive(Clone, Copy)]
 pub struct FlatUplink {
     pub reception_mark: u8,
     pub reception: u32,
 }
 
 #[repr(C)]
-#[derive(Drop)]
+#[derive(Clone, Copy)]
 pub struct FlatHeight {
     pub height_mark: u8,
     pub height: TerrainFeet,
 }
 
 #[repr(C)]
-#[derive(Drop)]
+#[derive(Clone, Copy)]
 pub struct FlatGeometric {
     pub altitude: GeometricSteps,
     pub warning: bool,
@@ -32,21 +32,21 @@ pub struct FlatGeometric {
 }
 
 #[repr(C)]
-#[derive(Drop)]
+#[derive(Clone, Copy)]
 pub struct FlatUplinkRead {
     pub number: u8,
     pub uplink: FlatUplink,
 }
 
 #[repr(C)]
-#[derive(Drop)]
+#[derive(Clone, Copy)]
 pub struct FlatHeightRead {
     pub number: u8,
     pub height: FlatHeight,
 }
 
 #[repr(C)]
-#[derive(Drop)]
+#[derive(Clone, Copy)]
 pub struct FlatGeometricRead {
     pub number: u8,
     pub geometric: FlatGeometric,

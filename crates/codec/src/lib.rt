@@ -5,7 +5,7 @@ ghost use Rattle.std.specs.Prelude.{true, ◌≡◌};
 ghost use Rattle.codec.specs.Reading.{misfit};
 ghost use Rattle.codec.specs.Writing.{Wrote};
 
-#[derive(Drop)]
+#[derive(Clone, Copy)]
 pub enum Written {
     // how many bytes were written
     Bytes(usize),

@@ -8,7 +8,7 @@ ghost use Rattle.collecting.specs.Step.{held, state_in, cleared, fresh, collecte
 ghost use Rattle.collecting.specs.Stream.{after, is_answered, answer_number, message_length, position, run, fed, unflagged};
 ghost use Rattle.collecting.specs.Stretch.{Within, Passed, Leads};
 
-#[derive(Drop)]
+#[derive(Clone, Copy)]
 pub enum Phase {
     // before the first flag
     LeadIn,
@@ -23,7 +23,7 @@ pub enum Phase {
 }
 
 // What is kept from one byte to the next, beside the room.
-#[derive(Drop)]
+#[derive(Clone, Copy)]
 pub struct Control {
     // bytes collected
     pub count: usize,
@@ -32,7 +32,7 @@ pub struct Control {
     pub phase: Phase,
 }
 
-#[derive(Drop)]
+#[derive(Clone, Copy)]
 pub enum Answer {
     // none yet
     None,
@@ -42,7 +42,7 @@ pub enum Answer {
     Refused(u8, usize),
 }
 
-#[derive(Drop)]
+#[derive(Clone, Copy)]
 pub struct Stepped {
     pub control: Control,
     pub answer: Answer,
@@ -233,7 +233,7 @@ fn collect(n: usize, at: usize, room: &mut [u8; 438], byte: u8) -> Control
     clear(Phase::TooLong, at, room)
 }
 
-#[derive(Drop)]
+#[derive(Clone, Copy)]
 pub struct Fed {
     pub control: Control,
     // how many bytes were taken
@@ -298,7 +298,7 @@ fn through_flag(
     }
 }
 
-#[derive(Drop)]
+#[derive(Clone, Copy)]
 pub struct Filled {
     pub control: Control,
     // how many bytes were taken

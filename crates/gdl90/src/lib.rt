@@ -55,7 +55,7 @@ pub extern "C" fn gdl90_check_sequence(message: &[u8]) -> u16
 
 // The number, and how many bytes were written, 0 with a refusal.
 #[repr(C)]
-#[derive(Drop)]
+#[derive(Clone, Copy)]
 pub struct FrameAnswer {
     pub number: u8,
     pub length: usize,
@@ -82,7 +82,7 @@ fn frame_answer(framed: Framed) -> FrameAnswer
 
 // What collecting keeps between two calls, beside the room: all zero is the fresh state.
 #[repr(C)]
-#[derive(Drop)]
+#[derive(Clone, Copy)]
 pub struct FeedControl {
     // bytes in the room
     pub count: usize,
@@ -93,7 +93,7 @@ pub struct FeedControl {
 }
 
 #[repr(C)]
-#[derive(Drop)]
+#[derive(Clone, Copy)]
 pub struct FeedAnswer {
     pub control: FeedControl,
     // how many bytes were taken
@@ -252,7 +252,7 @@ fn position(answer: Answer) -> usize
 
 // The number, and how many entries were written, 0 with a refusal.
 #[repr(C)]
-#[derive(Drop)]
+#[derive(Clone, Copy)]
 pub struct RecordingAnswer {
     pub number: u8,
     pub entries: usize,
@@ -282,7 +282,7 @@ fn recording_answer(recorded: Recorded) -> RecordingAnswer
 
 // The number, 6 where the message is of no kind, 17 where its id is retired; and the kind's id, which is the first byte.
 #[repr(C)]
-#[derive(Drop)]
+#[derive(Clone, Copy)]
 pub struct KindAnswer {
     pub number: u8,
     pub id: u8,
@@ -387,7 +387,7 @@ pub extern "C" fn gdl90_read_traffic(message: &[u8]) -> FlatReportRead
 
 // The number, and how many bytes were written, 0 with a refusal.
 #[repr(C)]
-#[derive(Drop)]
+#[derive(Clone, Copy)]
 pub struct WriteAnswer {
     pub number: u8,
     pub length: usize,
@@ -484,7 +484,7 @@ fn write_answer(written: Written) -> WriteAnswer
 
 // The number; how many information frames a payload has, and where their list ends, counted from the application data's start.
 #[repr(C)]
-#[derive(Drop)]
+#[derive(Clone, Copy)]
 pub struct PayloadListAnswer {
     pub number: u8,
     pub count: usize,
@@ -512,7 +512,7 @@ pub extern "C" fn gdl90_payload_list(payload: &[u8]) -> PayloadListAnswer
 
 // The number; a frame's type and reserved bits, where in the payload its data start, and how many bytes they are.
 #[repr(C)]
-#[derive(Drop)]
+#[derive(Clone, Copy)]
 pub struct PayloadNthAnswer {
     pub number: u8,
     pub kind: u8,
@@ -564,7 +564,7 @@ pub extern "C" fn gdl90_payload_add(payload: &mut [u8], kind: u8, bytes: &[u8]) 
 
 // The number; a text's hours, minutes and padding, and how many bytes of it were written, 0 with a refusal.
 #[repr(C)]
-#[derive(Drop)]
+#[derive(Clone, Copy)]
 pub struct TextAnswer {
     pub number: u8,
     pub hours: u8,
@@ -647,7 +647,7 @@ pub extern "C" fn gdl90_terrain_feet(height: TerrainFeet) -> i32
 
 // The number; two step numbers in degrees, 0 with a refusal.
 #[repr(C)]
-#[derive(Drop)]
+#[derive(Clone, Copy)]
 pub struct DegreesAnswer {
     pub number: u8,
     pub latitude: f64,

@@ -25,7 +25,7 @@ const TAB: u8 = 28;
 // No code has more than six bits.
 const NO_CODE: u8 = 64;
 
-#[derive(Drop)]
+#[derive(Clone, Copy)]
 pub enum TextReading {
     // a text of so many bytes, and what its header carries
     Text {
@@ -40,7 +40,7 @@ pub enum TextReading {
 }
 
 // Where reading stands: the place of the next byte, and the last byte with how many of its low bits are left.
-#[derive(Drop)]
+#[derive(Clone, Copy)]
 struct Cursor {
     at: usize,
     last: u8,
@@ -48,7 +48,7 @@ struct Cursor {
 }
 
 // A code, or `NO_CODE` where no whole one is left, and where reading stands behind it.
-#[derive(Drop)]
+#[derive(Clone, Copy)]
 struct Next {
     code: u8,
     rest: Cursor,
@@ -56,7 +56,7 @@ struct Next {
 
 // A byte so many times, a character once or a tab's spaces, and where reading stands behind it.
 // Byte 0 is none: the text ends (times 0), or there is no text (times 1).
-#[derive(Drop)]
+#[derive(Clone, Copy)]
 struct Run {
     byte: u8,
     times: u8,
@@ -64,7 +64,7 @@ struct Run {
 }
 
 // Four characters, a 0 for a code that is none, and where reading stands behind them.
-#[derive(Drop)]
+#[derive(Clone, Copy)]
 struct Four {
     a: u8,
     b: u8,
@@ -73,7 +73,7 @@ struct Four {
     rest: Cursor,
 }
 
-#[derive(Drop)]
+#[derive(Clone, Copy)]
 enum Measured {
     Length(usize),
     Fault,

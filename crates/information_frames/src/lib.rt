@@ -8,7 +8,7 @@ ghost use Rattle.information_frames.specs.Walk.{payload_frames};
 ghost use Rattle.information_frames.specs.Answers.{scanned, frame_list, nth_frame, DataPart};
 ghost use Rattle.information_frames.specs.Adding.{is_good, with_frame, Adds};
 
-#[derive(Drop)]
+#[derive(Clone, Copy)]
 pub struct Frame {
     // the byte of the application data at which its header of two bytes starts
     pub at: usize,
@@ -19,7 +19,7 @@ pub struct Frame {
     pub kind: u8,
 }
 
-#[derive(Drop)]
+#[derive(Clone, Copy)]
 pub enum FrameList {
     // how many frames, and the byte of the application data at which their list ends
     Frames { count: usize, end: usize },
@@ -27,14 +27,14 @@ pub enum FrameList {
     Refused(u8),
 }
 
-#[derive(Drop)]
+#[derive(Clone, Copy)]
 pub enum Found {
     Frame(Frame),
     // the number: 7, 11 as of `list`; 13, no frame with that number
     Refused(u8),
 }
 
-#[derive(Drop)]
+#[derive(Clone, Copy)]
 pub enum Added {
     Done,
     // the number: 7, 11 as of `list`; 8, a type over 15 or data not of 1 to 422 bytes; 9, no room
@@ -42,7 +42,7 @@ pub enum Added {
 }
 
 // What a walk finds: how many frames, the list's end, and the frame that was asked for.
-#[derive(Drop)]
+#[derive(Clone, Copy)]
 enum Walked {
     Listed(usize, usize, Frame),
     Refused(u8),

@@ -20,7 +20,7 @@ pub const LIMIT: u64 = 4294967295;
 pub const LONGEST: usize = 66;
 
 // What is kept from one stretch to the next, beside collecting's room.
-#[derive(Drop)]
+#[derive(Clone, Copy)]
 pub struct Lister {
     pub control: Control,
     // the bytes so far
@@ -33,7 +33,7 @@ pub struct Lister {
     pub after: u64,
 }
 
-#[derive(Drop)]
+#[derive(Clone, Copy)]
 pub struct Processed {
     pub lister: Lister,
     // how many bytes were taken
@@ -42,13 +42,13 @@ pub struct Processed {
     pub written: usize,
 }
 
-#[derive(Drop)]
+#[derive(Clone, Copy)]
 struct Stretch {
     lister: Lister,
     taken: usize,
 }
 
-#[derive(Drop)]
+#[derive(Clone, Copy)]
 struct Advanced {
     lister: Lister,
     end: usize,

@@ -6,7 +6,7 @@ use units::{GeometricSteps, PressureSteps, TerrainFeet};
 
 // 001 §3.1
 #[repr(C)]
-#[derive(Drop)]
+#[derive(Clone, Copy)]
 pub struct Heartbeat {
     pub status1: u8,
     // bits 6 to 0; bit 7 is the time's
@@ -26,7 +26,7 @@ impl Heartbeat {
 
 // 001 §3.2
 #[repr(C)]
-#[derive(Drop)]
+#[derive(Clone, Copy)]
 pub struct Initialization {
     pub first: u8,
     pub second: u8,
@@ -39,7 +39,7 @@ impl Initialization {
 }
 
 // Time of reception in the second.
-#[derive(Drop)]
+#[derive(Clone, Copy)]
 pub enum Reception {
     // of 80 ns
     Steps(u32),
@@ -47,7 +47,7 @@ pub enum Reception {
 }
 
 // 001 §3.3. The payload stays in the message.
-#[derive(Drop)]
+#[derive(Clone, Copy)]
 pub struct Uplink {
     pub reception: Reception,
 }
@@ -58,14 +58,14 @@ impl Uplink {
     pub const LENGTH: usize = 436;
 }
 
-#[derive(Drop)]
+#[derive(Clone, Copy)]
 pub enum Height {
     Feet(TerrainFeet),
     None,
 }
 
 // 001 §3.7
-#[derive(Drop)]
+#[derive(Clone, Copy)]
 pub struct HeightAboveTerrain {
     pub height: Height,
 }
@@ -77,20 +77,20 @@ impl HeightAboveTerrain {
 }
 
 // In steps of 180/2^23 degrees, north and east positive.
-#[derive(Drop)]
+#[derive(Clone, Copy)]
 pub enum Position {
     At { latitude: i32, longitude: i32 },
     None,
 }
 
-#[derive(Drop)]
+#[derive(Clone, Copy)]
 pub enum Altitude {
     Known(PressureSteps),
     None,
 }
 
 // 001 Table 9: what the track is.
-#[derive(Drop)]
+#[derive(Clone, Copy)]
 pub enum TrackKind {
     NotValid,
     TrueTrack,
@@ -98,7 +98,7 @@ pub enum TrackKind {
     TrueHeading,
 }
 
-#[derive(Drop)]
+#[derive(Clone, Copy)]
 pub enum Speed {
     Knots(u16),
     // 4,094 knots or more
@@ -107,7 +107,7 @@ pub enum Speed {
 }
 
 // In steps of 64 feet per minute.
-#[derive(Drop)]
+#[derive(Clone, Copy)]
 pub enum Climb {
     Steps(i32),
     // more than 509 steps up, and down
@@ -131,7 +131,7 @@ pub struct CallSign(
 );
 
 // 001 §3.5.1, of an ownship (§3.4) and of traffic (§3.5)
-#[derive(Drop)]
+#[derive(Clone, Copy)]
 pub struct Report {
     pub alert: u8,
     pub address_type: u8,
@@ -153,7 +153,7 @@ pub struct Report {
     pub spare: u8,
 }
 
-#[derive(Drop)]
+#[derive(Clone, Copy)]
 pub struct Ownship {
     pub report: Report,
 }
@@ -164,7 +164,7 @@ impl Ownship {
     pub const LENGTH: usize = 28;
 }
 
-#[derive(Drop)]
+#[derive(Clone, Copy)]
 pub struct Traffic {
     pub report: Report,
 }
@@ -176,7 +176,7 @@ impl Traffic {
 }
 
 // A figure of merit.
-#[derive(Drop)]
+#[derive(Clone, Copy)]
 pub enum Merit {
     Metres(u16),
     // over 32,766 metres
@@ -185,7 +185,7 @@ pub enum Merit {
 }
 
 // 001 §3.8
-#[derive(Drop)]
+#[derive(Clone, Copy)]
 pub struct GeometricAltitude {
     pub altitude: GeometricSteps,
     pub warning: bool,
@@ -200,38 +200,38 @@ impl GeometricAltitude {
 
 // What reading one kind answers: the number, and the value, which is all zero with a refusal.
 #[repr(C)]
-#[derive(Drop)]
+#[derive(Clone, Copy)]
 pub struct HeartbeatRead {
     pub number: u8,
     pub heartbeat: Heartbeat,
 }
 
 #[repr(C)]
-#[derive(Drop)]
+#[derive(Clone, Copy)]
 pub struct InitializationRead {
     pub number: u8,
     pub initialization: Initialization,
 }
 
-#[derive(Drop)]
+#[derive(Clone, Copy)]
 pub struct UplinkRead {
     pub number: u8,
     pub uplink: Uplink,
 }
 
-#[derive(Drop)]
+#[derive(Clone, Copy)]
 pub struct HeightRead {
     pub number: u8,
     pub height: HeightAboveTerrain,
 }
 
-#[derive(Drop)]
+#[derive(Clone, Copy)]
 pub struct GeometricRead {
     pub number: u8,
     pub geometric: GeometricAltitude,
 }
 
-#[derive(Drop)]
+#[derive(Clone, Copy)]
 pub enum Message {
     Heartbeat(Heartbeat),
     Initialization(Initialization),
@@ -242,7 +242,7 @@ pub enum Message {
     Traffic(Traffic),
 }
 
-#[derive(Drop)]
+#[derive(Clone, Copy)]
 pub enum Reading {
     Message(Message),
     // the number: 6, empty or another id; 17, a retired id; 7, length; 8, a field outside its range

@@ -16,7 +16,7 @@ const BASIC_PASS_THROUGH: u8 = 30;
 const LONG_PASS_THROUGH: u8 = 31;
 
 // What an id says.
-#[derive(Drop)]
+#[derive(Clone, Copy)]
 pub enum Kind {
     Heartbeat,
     Initialization,

@@ -22,7 +22,7 @@ fn part_end(recording: &[u8], start: usize) -> usize
 }
 
 // A part without its escapes. Its bytes, up to 438, stand at a room's start.
-#[derive(Drop)]
+#[derive(Clone, Copy)]
 struct UnstuffedPart {
     // the first of 1, 2 and 3 that is met, 0 for none
     fault: u8,
@@ -69,7 +69,7 @@ fn unstuff(part: &[u8], room: &mut [u8; 438]) -> UnstuffedPart
 }
 
 // One byte of a part without its escape, and the place behind it; or the fault of the escape.
-#[derive(Drop)]
+#[derive(Clone, Copy)]
 struct Unescaped {
     // 1 or 2, 0 for none
     fault: u8,
@@ -138,7 +138,7 @@ fn check(unstuffed: UnstuffedPart, room: &[u8]) -> Answer
 }
 
 // The answer to a part, and its end: the place of the flag that closes it, or the end of the recording.
-#[derive(Drop)]
+#[derive(Clone, Copy)]
 struct PartAnswer {
     answer: Answer,
     end: usize,
@@ -164,7 +164,7 @@ fn answer_part(recording: &[u8], i: usize, room: &mut [u8; 438]) -> PartAnswer
 }
 
 // How many entries a recording has, and how many bytes its messages have together.
-#[derive(Drop)]
+#[derive(Clone, Copy)]
 struct Needed {
     entries: usize,
     bytes: usize,
@@ -242,7 +242,7 @@ fn write(recording: &[u8], list: &mut [usize], messages: &mut [u8])
     }
 }
 
-#[derive(Drop)]
+#[derive(Clone, Copy)]
 pub enum Recorded {
     // how many entries
     Entries(usize),

@@ -283,7 +283,7 @@ fn is_between(n: i32, low: i32, high: i32) -> bool
 }
 
 // The numbers that stand in the bytes for the fields with a sign, a mark or a name.
-#[derive(Drop)]
+#[derive(Clone, Copy)]
 struct Codes {
     latitude: u32,
     longitude: u32,
@@ -432,7 +432,7 @@ fn none_mark(latitude: u32, longitude: u32, integrity: u8) -> bool
     (latitude == 0) & (longitude == 0) & (integrity == 0)
 }
 
-#[derive(Drop)]
+#[derive(Clone, Copy)]
 struct Place {
     latitude: i32,
     longitude: i32,

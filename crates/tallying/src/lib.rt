@@ -7,7 +7,7 @@ ghost use Rattle.tallying.specs.Tally.{hold, zero, raised_at, tallied};
 use collecting::Answer;
 
 #[repr(C)]
-#[derive(Drop)]
+#[derive(Clone, Copy)]
 pub struct Tally {
     // of the answers 0 to 5; each holds at 4,294,967,295
     pub counts: [u32; 6],

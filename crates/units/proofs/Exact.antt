@@ -133,10 +133,10 @@ negative : ℤ → Bool
 negative n = not (non_neg n)
 
 -- the whole number as a float
-of_int : (n : ℤ) → mag n < 8388608 → HasValue (of_int binary64 n) (not (non_neg n)) (nat_abs n) 1
+of_int_lem : (n : ℤ) → mag n < 8388608 → HasValue (of_int binary64 n) (not (non_neg n)) (nat_abs n) 1
 unfolding of_int
-of_int (pos n) h = round_whole binary64 false n (le_of_lt (lt_trans h (lit< tt)))
-of_int (negsuc n) h = round_whole binary64 true (suc n) (le_of_lt (lt_of_le_of_lt h (lit< tt)))
+of_int_lem (pos n) h = round_whole binary64 false n (le_of_lt (lt_trans h (lit< tt)))
+of_int_lem (negsuc n) h = round_whole binary64 true (suc n) (le_of_lt (lt_of_le_of_lt h (lit< tt)))
 
 size : (n : ℤ) → mag n < 8388608 → nat_abs n ≤ 8388608
 size (pos n) h = le_of_lt h
@@ -155,7 +155,7 @@ value_of n h =
     let b = size n h in
     subst (λ (x : Float). HasValue (div binary64 (mul binary64 (of_int binary64 n) x) (of_bits binary64 0x4160_0000_0000_0000)) (not (non_neg n)) (180 * nat_abs n) 8388608) (sym factor)
     (subst (λ (x : Float). HasValue (div binary64 (mul binary64 (of_int binary64 n) (fin false 45 (pos 2))) x) (not (non_neg n)) (180 * nat_abs n) 8388608) (sym divisor)
-    (over (mul binary64 (of_int binary64 n) (fin false 45 (pos 2))) (not (non_neg n)) (180 * nat_abs n) (omega arith) (by180 (of_int binary64 n) (not (non_neg n)) (nat_abs n) b (of_int n h))))
+    (over (mul binary64 (of_int binary64 n) (fin false 45 (pos 2))) (not (non_neg n)) (180 * nat_abs n) (omega arith) (by180 (of_int binary64 n) (not (non_neg n)) (nat_abs n) b (of_int_lem n h))))
 
 pub exactly : (n : ℤ) → mag n < 8388608 → Exactly n (to_bits binary64 (degrees n))
 unfolding Read of_bits

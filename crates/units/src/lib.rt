@@ -10,21 +10,21 @@ ghost use Rattle.units.specs.TimeOfDay.{is_time_of_day};
 
 // Pressure altitude in steps of 25 feet, from 1,000 feet below zero on.
 #[repr(C)]
-#[derive(Drop)]
+#[derive(Clone, Copy)]
 pub struct PressureSteps {
     pub steps: u16,
 }
 
 // Geometric altitude, 5 feet a step.
 #[repr(C)]
-#[derive(Drop)]
+#[derive(Clone, Copy)]
 pub struct GeometricSteps {
     pub steps: i16,
 }
 
 // Height above terrain in feet.
 #[repr(C)]
-#[derive(Drop)]
+#[derive(Clone, Copy)]
 pub struct TerrainFeet {
     pub feet: i16,
 }
@@ -53,13 +53,13 @@ impl TerrainFeet {
     }
 }
 
-#[derive(Drop)]
+#[derive(Clone, Copy)]
 pub struct Degrees {
     pub latitude: f64,
     pub longitude: f64,
 }
 
-#[derive(Drop)]
+#[derive(Clone, Copy)]
 pub enum InDegrees {
     At(Degrees),
     // 8: a step number that 24 bits do not hold
