@@ -2,7 +2,11 @@
 #![tactic(auto)]
 
 use listing::Lister;
-use std::io::Read;
+use std::io::{Error, ErrorKind, Read};
+use std::process::ExitCode;
+
+// The status where nobody reads the output any more: what a shell has for a program that ends by SIGPIPE. `gdl90-list` reads it.
+const OUTPUT_CLOSED: u8 = 141;
 
 #[derive(Clone, Copy)]
 enum Outcome {
@@ -12,6 +16,8 @@ enum Outcome {
     End,
     ReadFailed,
     WriteFailed,
+    // a write failed since nobody reads the output any more
+    OutputClosed,
 }
 
 #[derive(Drop)]
@@ -22,18 +28,17 @@ struct Turn {
     outcome: Outcome,
 }
 
-fn main(rt: HostRuntime) {
+fn main(rt: HostRuntime) -> ExitCode {
     let heading = listing::heading();
-    if rt.write_all(&heading).is_err() {
-        say(&rt, Outcome::WriteFailed);
-        return;
+    if let Err(e) = rt.write_all(&heading) {
+        return give_up(&rt, e);
     }
     let mut room = [0u8; 438];
     let lister = listing::start(&mut room);
     let last = list_all(&rt, &mut rt.stdin(), lister, &mut room);
     let outcome = last.outcome;
     let lister = last.lister;
-    finish(&rt, lister, last.begun, outcome);
+    finish(&rt, lister, last.begun, outcome)
 }
 
 // Reads until the input ends or the limit is reached: each turn but the last takes a byte or more.
@@ -73,6 +78,7 @@ fn goes_on(outcome: Outcome) -> bool {
         Outcome::End => false,
         Outcome::ReadFailed => false,
         Outcome::WriteFailed => false,
+        Outcome::OutputClosed => false,
     }
 }
 
@@ -139,11 +145,11 @@ fn list_bytes(
         let taken = processed.taken;
         let written = processed.written;
         lister = processed.lister;
-        if rt.write_all(&out[..written]).is_err() {
+        if let Err(e) = rt.write_all(&out[..written]) {
             return Turn {
                 lister,
                 begun,
-                outcome: Outcome::WriteFailed,
+                outcome: failed_write(e),
             };
         }
         if taken == 0 {
@@ -164,19 +170,50 @@ fn list_bytes(
 
 // The last line, unless the output is closed, and a note where the whole input is no recording. After a read that failed
 // the line stands for what was read, and there is no note.
-fn finish(rt: &(impl Print + Eprint), lister: Lister, begun: u64, outcome: Outcome) {
+fn finish(rt: &(impl Print + Eprint), lister: Lister, begun: u64, outcome: Outcome) -> ExitCode {
     say(rt, outcome);
-    if let Outcome::WriteFailed = outcome {
-        return;
+    if is_failed_write(outcome) {
+        return status(outcome);
     }
     let mut ending = [0u8; 26];
     let n = listing::finish(lister, &mut ending);
-    if rt.write_all(&ending[..n]).is_err() {
-        say(rt, Outcome::WriteFailed);
-        return;
+    if let Err(e) = rt.write_all(&ending[..n]) {
+        return give_up(rt, e);
     }
     if let Outcome::End = outcome {
         note_no_frame(rt, lister, begun);
+    }
+    status(outcome)
+}
+
+fn give_up(rt: &impl Eprint, error: Error) -> ExitCode {
+    let outcome = failed_write(error);
+    say(rt, outcome);
+    status(outcome)
+}
+
+fn failed_write(error: Error) -> Outcome {
+    match error.kind() {
+        ErrorKind::BrokenPipe => Outcome::OutputClosed,
+        _ => Outcome::WriteFailed,
+    }
+}
+
+fn is_failed_write(outcome: Outcome) -> bool {
+    match outcome {
+        Outcome::More => false,
+        Outcome::End => false,
+        Outcome::ReadFailed => false,
+        Outcome::WriteFailed => true,
+        Outcome::OutputClosed => true,
+    }
+}
+
+// Of all that can go wrong, only an output that is closed shows here: the rest is a word on standard error.
+fn status(outcome: Outcome) -> ExitCode {
+    match outcome {
+        Outcome::OutputClosed => ExitCode::from(OUTPUT_CLOSED),
+        _ => ExitCode::SUCCESS,
     }
 }
 
@@ -211,5 +248,6 @@ fn say(rt: &impl Eprint, outcome: Outcome) {
         Outcome::End => {}
         Outcome::ReadFailed => note(rt, "lister: cannot read standard input"),
         Outcome::WriteFailed => note(rt, "lister: cannot write to standard output"),
+        Outcome::OutputClosed => note(rt, "lister: cannot write to standard output"),
     }
 }
