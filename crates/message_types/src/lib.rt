@@ -118,7 +118,7 @@ pub enum Climb {
 
 // As it came, any bytes.
 #[repr(C)]
-#[derive(Drop)]
+#[derive(Clone, Copy)]
 pub struct CallSign(
     pub u8,
     pub u8,

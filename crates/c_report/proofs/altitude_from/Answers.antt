@@ -1,0 +1,17 @@
+-- `c_report::altitude_from` meets its contract, by the mark.
+-- Assumes nothing.
+use borrow.Author.Tests.{eq-eqb, ne_eqb}
+use Rattle.c_report.specs.Flat.{altitude_from}
+use Rattle.c_report.proofs.altitude_from.Goals as goal
+
+pub returns-then-mark-eq0 : goal.returns-then-mark-eq0
+unfolding altitude_from
+returns-then-mark-eq0 c = simp (eq-eqb _ 0 c.if-mark-eq0.true)
+
+pub returns-then-mark-eq1 : goal.returns-then-mark-eq1
+unfolding altitude_from
+returns-then-mark-eq1 c = simp (ne_eqb _ 0 c.if-mark-eq0.false, eq-eqb _ 1 c.if-mark-eq1.true)
+
+pub returns : goal.returns
+unfolding altitude_from
+returns c = simp (ne_eqb _ 0 c.if-mark-eq0.false, ne_eqb _ 1 c.if-mark-eq1.false)

@@ -1,0 +1,17 @@
+-- `c_structs::reception_from` meets its contract, by the mark.
+-- Assumes nothing.
+use borrow.Author.Tests.{eq-eqb, ne_eqb}
+use Rattle.c_structs.specs.Flat.{reception_from}
+use Rattle.c_structs.proofs.reception_from.Goals as goal
+
+pub returns-then-mark-eq0 : goal.returns-then-mark-eq0
+unfolding reception_from
+returns-then-mark-eq0 c = simp (eq-eqb _ 0 c.if-mark-eq0.true)
+
+pub returns-then-mark-eq1 : goal.returns-then-mark-eq1
+unfolding reception_from
+returns-then-mark-eq1 c = simp (ne_eqb _ 0 c.if-mark-eq0.false, eq-eqb _ 1 c.if-mark-eq1.true)
+
+pub returns : goal.returns
+unfolding reception_from
+returns c = simp (ne_eqb _ 0 c.if-mark-eq0.false, ne_eqb _ 1 c.if-mark-eq1.false)

@@ -1,0 +1,16 @@
+-- `collecting::fill` meets its contract. The loop's invariant: the bytes passed are taken.
+-- Assumes nothing.
+use native.Mathlib.Omega.{arith}
+use Prim.Native.Nat.{◌-◌}
+use lib.ListN.{length}
+use Rattle.collecting.specs.Step.{held}
+use Rattle.collecting.specs.Stretch.{Passed}
+use Rattle.collecting.proofs.Filling.{unflagged_end, unflagged_flag, unflagged_more, unflagged_most, passed_none, rest, passed_part, passed_all}
+use borrow.Author.Rules.{rules}
+use Rattle.collecting.proofs.fill.Given as goal
+
+abbrev pub invariant-loop-n : goal.invariant-loop-n
+invariant-loop-n l = Passed (held l.initial.c l.initial.room) l.bytes l.n (held l.c l.room)
+
+abbrev pub decreases-loop-n : goal.decreases-loop-n
+decreases-loop-n l = length l.bytes - l.n

@@ -1,0 +1,48 @@
+-- `report::numbers_in` meets its contract, field by field.
+-- Assumes nothing.
+use mathlib.Core.Path.{sym, ◌∙◌}
+use Prim.Native.Nat.{◌/◌, ◌%◌}
+use native.Mathlib.Omega.{arith}
+use lib.Dec.{eqb}
+use lib.ListN.{get_or}
+use Rattle.units.proofs.Wide.{back32}
+use Rattle.numbers.specs.Signed.{signed_in}
+use Rattle.c_report.specs.Flat.{position_mark, altitude_mark, altitude_steps, speed_mark, speed_knots, climb_mark, climb_steps}
+use Rattle.report.specs.Marks.{position_of, altitude_of, speed_of, climb_of}
+use Rattle.report.specs.Bytes.{codes_in, report_in}
+use Rattle.report.proofs.Marked.{kind_code, degrees_in}
+use borrow.Author.Rules.{rules}
+use Rattle.report.proofs.numbers_in.Goals as goal
+
+pub returns : goal.returns
+unfolding report_in
+returns c =
+    let m = c.args.message.now in
+    let codes = c.codes_in-codes.ensures in
+    let e = codes_in m in
+    let integrity = get_or m 13 0 / 16 in
+    let degrees = degrees_in e.latitude e.longitude integrity in
+    λ i. record {
+      alert = get_or m 1 0 / 16;
+      address_type = get_or m 1 0 % 16;
+      address = c.three_at.ensures i;
+      position_mark = (c.position_mark.ensures ∙ (λ j. position_mark (position_of (codes j).latitude (codes j).longitude integrity))) i;
+      latitude = (back32 _ c.signed_in.type_inv ∙ c.signed_in.ensures ∙ (λ j. signed_in 0x800000 (codes j).latitude) ∙ sym degrees.0) i;
+      longitude = (back32 _ c.signed_in-2.type_inv ∙ c.signed_in-2.ensures ∙ (λ j. signed_in 0x800000 (codes j).longitude) ∙ sym degrees.1) i;
+      altitude_mark = (c.altitude_mark.ensures ∙ (λ j. altitude_mark (altitude_of (codes j).altitude))) i;
+      altitude = (c.altitude_steps.ensures ∙ (λ j. altitude_steps (altitude_of (codes j).altitude))) i;
+      track_kind = ((λ j. (codes j).kind) ∙ sym (kind_code e.kind (omega arith))) i;
+      extrapolated = eqb (codes i).extrapolated 1;
+      airborne = eqb (codes i).airborne 1;
+      integrity = integrity;
+      accuracy = get_or m 13 0 % 16;
+      speed_mark = (c.speed_mark.ensures ∙ (λ j. speed_mark (speed_of (codes j).speed))) i;
+      speed = (c.speed_knots.ensures ∙ (λ j. speed_knots (speed_of (codes j).speed))) i;
+      climb_mark = (c.climb_mark.ensures ∙ (λ j. climb_mark (climb_of (codes j).climb))) i;
+      climb = (back32 _ c.climb_steps.type_inv ∙ c.climb_steps.ensures ∙ (λ j. climb_steps (climb_of (codes j).climb))) i;
+      track = get_or m 17 0;
+      emitter = get_or m 18 0;
+      call_sign = c.call_sign_in.ensures i;
+      priority = get_or m 27 0 / 16;
+      spare = get_or m 27 0 % 16;
+    }
