@@ -13,19 +13,15 @@ use Rattle.by_value_benchmark.specs.Answers.{answer_count}
 use Rattle.by_value_benchmark.proofs.Counting.{at_most_one, one_less, none_left}
 use Rattle.by_value_benchmark.proofs.by_value_answers.Goals as goal
 
--- what a turn counts
-counts : (c : tie.After-one invariant-loop decreases-loop) → c.one.result ≡ cond (is_answered (answer_to c.before.before.before.before.before.loop.collector (get_or c.before.before.before.before.before.before.before.before.args.bytes.now c.before.before.before.before.before.loop.i 0))) 1 0
-unfolding stepped
-counts c = c.one.ensures ∙ ap (λ (s : Collected). cond (is_answered s.answer) 1 0) c.before.before.step.ensures
-
 pub loop-i-preserved : goal.loop-i-preserved
 loop-i-preserved c =
     let bytes = c.args.bytes.now in
     let b = get_or bytes c.loop-i.i 0 in
+    let counts : c.one-n.result ≡ cond (is_answered (answer_to c.loop-i.collector b)) 1 0 = unfold stepped in c.one-n.ensures ∙ ap (λ (s : Collected). cond (is_answered s.answer) 1 0) c.step-collected.ensures in
     let state : c.step-collected.result.state ≡ next c.loop-i.collector b = unfold stepped in ap (λ (s : Collected). s.state) c.step-collected.ensures in (
       omega arith,
-      omega (arith, counts c, at_most_one (answer_to c.loop-i.collector b)),
-      omega (arith, counts c, one_less c.loop-i.collector bytes c.loop-i.i (omega arith), ap (λ (d : Collector). answer_count d (drop (c.loop-i.i + 1) bytes)) state),
+      omega (arith, counts, at_most_one (answer_to c.loop-i.collector b)),
+      omega (arith, counts, one_less c.loop-i.collector bytes c.loop-i.i (omega arith), ap (λ (d : Collector). answer_count d (drop (c.loop-i.i + 1) bytes)) state),
     )
 
 pub returns : goal.returns
