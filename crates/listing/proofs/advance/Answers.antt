@@ -5,7 +5,6 @@ use mathlib.Core.Bool.{Bool}
 use Rattle.collecting.proofs.Ranging.{in_range}
 use Rattle.listing.specs.Listing.{state, collector, counted}
 use Rattle.listing.proofs.Steps.{answer_is, state_is, text_is}
-use borrow.Author.Rules.{rules}
 use Rattle.listing.proofs.advance.Goals as goal
 
 pub put_reply-end-requires : goal.put_reply-end-requires

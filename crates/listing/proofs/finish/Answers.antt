@@ -5,7 +5,6 @@ use Prim.Native.Nat.{◌-◌}
 use Rattle.numbers.specs.Lent.{Stored}
 use Rattle.listing.specs.Listing.{ending}
 use Rattle.listing.proofs.Rows.{ending_stored}
-use borrow.Author.Rules.{rules}
 use Rattle.listing.proofs.finish.Goals as goal
 
 pub returns : goal.returns

@@ -4,7 +4,6 @@ use native.Mathlib.Omega.{arith}
 use Rattle.collecting.proofs.Filling.{unflagged_most}
 use Rattle.listing.specs.Listing.{state}
 use Rattle.listing.proofs.Passing.{passed_is}
-use borrow.Author.Rules.{rules}
 use Rattle.listing.proofs.pass.Goals as goal
 
 pub passed-lister-requires : goal.passed-lister-requires

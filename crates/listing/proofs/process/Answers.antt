@@ -1,10 +1,10 @@
 -- `listing::process` meets its contract. The loop's invariant is `Running`, within the bytes up to the limit.
 -- Assumes nothing.
 use native.Mathlib.Omega.{arith}
-use Prim.Native.Nat.{◌+◌, ◌-◌, ◌≤◌}
-use lib.ListN.{length, drop, length-take}
+use Prim.Native.Nat.{◌-◌}
+use lib.ListN.{drop, length-take}
 use Rattle.listing.specs.Listing.{state}
-use Rattle.listing.proofs.Steps.{Running, running_start, running_stop, running_more, taken_room}
+use Rattle.listing.proofs.Steps.{running_start, running_stop, running_more, taken_room}
 use Rattle.listing.proofs.Passing.{running_pass, running_taken, taken_stop}
 use Rattle.listing.proofs.process.Goals as goal
 

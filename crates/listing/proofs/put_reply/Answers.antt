@@ -6,7 +6,6 @@ use native.Mathlib.Nat.{add-zero}
 use Rattle.collecting.specs.Stream.{reply}
 use Rattle.listing.specs.Listing.{reply_line}
 use Rattle.listing.proofs.Rows.{ranged, position_most, accepted_line}
-use borrow.Author.Rules.{rules}
 use Rattle.listing.proofs.put_reply.Goals as goal
 
 pub read_number-requires : goal.read_number-requires
