@@ -1,12 +1,13 @@
 #!/usr/bin/env bash
-# Checks of gdl90-list, from any folder; stops at the first that is wrong. The lister has to be built: rt check lister.
+# Checks of gdl90-list, from any folder; stops at the first that is wrong. The lister has to be built: rt run, in crates/lister.
 # They need socat, tshark with text2pcap, and xxd.
 set -euo pipefail
 root=$(cd "$(dirname "${BASH_SOURCE[0]}")/.." && pwd)
 list=$root/gdl90-list
 sample=$root/samples/recording.gdl90
 listing=$root/samples/recording.txt
-[ -x "$root/target/bin/lister" ] || { echo 'target/bin/lister is not built: run rt check lister' >&2; exit 1; }
+lister=$root/crates/lister/out/lister
+[ -x "$lister" ] || { echo "$lister is not built: run rt run in crates/lister" >&2; exit 1; }
 "$list" /dev/null > /dev/null 2>&1 # builds it anew where a source is newer
 tmp=$(mktemp -d)
 trap 'if [ -e "$tmp/socat" ]; then kill "$(cat "$tmp/socat")" || true; fi; rm -rf "$tmp"' EXIT
@@ -164,7 +165,7 @@ captures() {
     { split -b 200 --filter='od -Ax -tx1 -v' "$sample"; head -c 1400 "$sample" | od -Ax -tx1 -v; } > "$tmp/datagrams"
     for format in pcap nsecpcap pcapng; do
         text2pcap -q -F "$format" -u 4000,4000 "$tmp/datagrams" "$tmp/capture" 2> /dev/null
-        "$root/target/bin/lister" < "$tmp/capture" > "$tmp/capture.txt" 2> /dev/null
+        "$lister" < "$tmp/capture" > "$tmp/capture.txt" 2> /dev/null
         run "$list" "$tmp/capture"
         noted "a capture, $format" "$tmp/capture.txt" 'the input begins as a packet capture'
         advised tshark CAPTURE "$tmp/capture"
@@ -273,29 +274,29 @@ copy() {
     "${environment[@]}" "$tmp/copy/gdl90-list" "$sample"
 }
 
-# An rt that proves two crates, and then leaves a lister there or ends with this status.
+# An rt that proves a library, and then leaves a lister there or ends with this status.
 put_rt() {
     cat > "$tools/rt" << END
 #!/bin/sh
-echo "called: rt \$*"
-echo 'fn numbers::one: proved'
-echo 'rt: numbers proved (1 s)'
-echo 'rt: lister proved (unchanged since it was last proved)'
+echo "called: rt \$* in \${PWD##*/}"
+echo 'fn one: proved'
+[ "\$1" = run ] || exit 0
 [ "$1" = 0 ] || { echo 'what is wrong' >&2; exit "$1"; }
-mkdir -p target/bin
-cp "$root/target/bin/lister" target/bin/
+mkdir -p out
+cp "$lister" out/
 END
     chmod +x "$tools/rt"
 }
 
-# built NAME STATUS OUTPUT WORD: as check, with a line of progress for each crate; what rt says stands in the log alone.
+# built NAME STATUS OUTPUT WORD: as check, with a line of progress for each crate that is proved; what rt says stands in the log alone.
 built() {
-    local line
-    for line in '1 of 2 crates proved, last numbers' '2 of 2 crates proved, last lister'; do
+    local line steps=('1 of 2 crates proved, last numbers' '2 of 2 crates proved, last lister')
+    [ "$2" -eq 0 ] || steps=("${steps[0]}")
+    for line in "${steps[@]}"; do
         grep -qF -- "gdl90-list: building the lister: $line" "$err" || wrong "$1: no line '$line'"
     done
     ! grep -qv '^gdl90-list: ' "$err" || wrong "$1: another line"
-    for line in 'called: rt check lister' 'fn numbers::one: proved'; do
+    for line in 'called: rt lib in numbers' 'called: rt run in lister' 'fn one: proved'; do
         grep -qxF -- "$line" "$tmp/copy/target/gdl90-list.log" || wrong "$1: '$line' is not in the log"
     done
     check "$@"
@@ -303,7 +304,7 @@ built() {
 
 # With rt itself: it proves nothing anew here, and says so crate by crate.
 rebuilding() {
-    touch -d 2000-01-01 "$root/target/bin/lister"
+    touch -d 2000-01-01 "$lister"
     run "$list" "$sample"
     tail -n 1 "$err" | grep -qx 'gdl90-list: building the lister: \([0-9]*\) of \1 crates proved, last lister' || wrong 'another last step'
     check 'a lister older than its source is built by rt' 0 "$listing" 'building the lister'
@@ -312,7 +313,7 @@ rebuilding() {
 building() {
     local tools=$tmp/tools source=$tmp/copy/crates/lister/src/main.rt log=$tmp/copy/target/gdl90-list.log
     environment=(env "PATH=$tools")
-    mkdir -p "$tmp/copy/crates/lister/src" "$tools"
+    mkdir -p "$tmp/copy/crates/numbers" "$tmp/copy/crates/lister/src" "$tools"
     for tool in sh dirname readlink find touch cp mkdir awk; do ln -s "$(command -v "$tool")" "$tools/$tool"; done
     cp "$list" "$tmp/copy/"
     touch "$source"
@@ -359,10 +360,10 @@ without_building() {
     rm "$tmp/tools/rt"
     run copy
     check 'no rt, an older lister' 0 "$listing" 'older than its source'
-    rm -r "$tmp/copy/crates" "$tmp/copy/crates.txt"
+    rm -r "$tmp/copy/crates/lister/src" "$tmp/copy/crates.txt"
     run copy
     check 'a built lister is enough' 0 "$listing" ''
-    printf '#!/bin/sh\nkill -9 $$\n' > "$tmp/copy/target/bin/lister"
+    printf '#!/bin/sh\nkill -9 $$\n' > "$tmp/copy/crates/lister/out/lister"
     run copy
     check 'a lister that is killed' 1 /dev/null 'ended with status'
 }

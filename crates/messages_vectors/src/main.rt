@@ -1,46 +1,44 @@
 // Reads each message of standard input and prints the number and, where it is 0, the kind, its fields and
 // the bytes that writing them gives. A record of the input is the message's length, two bytes, high byte
 // first, and then the message. The records and the text that is stored beside this program come from
-// rust/reference.
+// rust/reference. A write that fails is passed over.
 #![tactic(auto)]
 
 ghost use Rattle.std.specs.Prelude.{◌+◌, ◌≤◌, ◌<◌, length};
 
 use codec::Written;
-use libc::{STDERR_FILENO, STDIN_FILENO, STDOUT_FILENO};
 use message_types::{
     Altitude, CallSign, Climb, GeometricAltitude, Heartbeat, Height, Initialization, Merit,
     Message, Position, Reading, Reception, Report, Speed, TrackKind,
 };
 
-fn print(text: &[u8]) {
-    io::write_all(STDOUT_FILENO, text);
+fn print(rt: &impl Print, text: &str) {
+    let _ = rt.print(text);
 }
 
 // Here and below: a blank, and then the field.
-fn print_number(n: u32) {
-    print(b" ");
-    io::print_decimal(STDOUT_FILENO, n as u64);
+fn print_number(rt: &impl Print, n: u32) {
+    let _ = print!(rt; " {n}");
 }
 
-fn print_byte(n: u8) {
-    print_number(n as u32);
+fn print_byte(rt: &impl Print, n: u8) {
+    print_number(rt, n as u32);
 }
 
-fn print_bit(bit: bool) {
+fn print_bit(rt: &impl Print, bit: bool) {
     if bit {
-        print(b" 1");
+        print(rt, " 1");
     } else {
-        print(b" 0");
+        print(rt, " 0");
     }
 }
 
-fn print_signed(n: i32) {
+fn print_signed(rt: &impl Print, n: i32) {
     if n < 0 {
-        print(b" -");
-        io::print_decimal(STDOUT_FILENO, beyond((!n) as u32));
+        let magnitude = beyond((!n) as u32);
+        let _ = print!(rt; " -{magnitude}");
     } else {
-        print_number(n as u32);
+        print_number(rt, n as u32);
     }
 }
 
@@ -49,190 +47,190 @@ fn beyond(n: u32) -> u64 {
     (n as u64) + 1
 }
 
-fn print_call_sign(sign: CallSign) {
-    print(b" ");
+fn print_call_sign(rt: &impl Print, sign: CallSign) {
+    print(rt, " ");
     let list = [
         sign.0, sign.1, sign.2, sign.3, sign.4, sign.5, sign.6, sign.7,
     ];
-    printing::hex_bytes(STDOUT_FILENO, &list, 8);
+    printing::hex_bytes(rt, &list, 8);
 }
 
-fn print_heartbeat(heartbeat: Heartbeat) {
-    print(b"heartbeat");
-    print_byte(heartbeat.status1);
-    print_byte(heartbeat.status2);
-    print_number(heartbeat.time);
-    print_byte(heartbeat.uplinks);
-    print_byte(heartbeat.reserved);
-    print_number(heartbeat.basic_and_long as u32);
+fn print_heartbeat(rt: &impl Print, heartbeat: Heartbeat) {
+    print(rt, "heartbeat");
+    print_byte(rt, heartbeat.status1);
+    print_byte(rt, heartbeat.status2);
+    print_number(rt, heartbeat.time);
+    print_byte(rt, heartbeat.uplinks);
+    print_byte(rt, heartbeat.reserved);
+    print_number(rt, heartbeat.basic_and_long as u32);
 }
 
-fn print_initialization(initialization: Initialization) {
-    print(b"initialization");
-    print_byte(initialization.first);
-    print_byte(initialization.second);
+fn print_initialization(rt: &impl Print, initialization: Initialization) {
+    print(rt, "initialization");
+    print_byte(rt, initialization.first);
+    print_byte(rt, initialization.second);
 }
 
-fn print_reception(reception: Reception) {
+fn print_reception(rt: &impl Print, reception: Reception) {
     match reception {
-        Reception::Steps(steps) => print_number(steps),
-        Reception::None => print(b" none"),
+        Reception::Steps(steps) => print_number(rt, steps),
+        Reception::None => print(rt, " none"),
     }
 }
 
-fn print_height(height: Height) {
-    print(b"height");
+fn print_height(rt: &impl Print, height: Height) {
+    print(rt, "height");
     match height {
-        Height::Feet(feet) => print_signed(feet.feet()),
-        Height::None => print(b" none"),
+        Height::Feet(feet) => print_signed(rt, feet.feet()),
+        Height::None => print(rt, " none"),
     }
 }
 
-fn print_geometric(geometric: GeometricAltitude) {
-    print(b"geometric");
+fn print_geometric(rt: &impl Print, geometric: GeometricAltitude) {
+    print(rt, "geometric");
     let altitude = geometric.altitude;
-    print_signed(altitude.feet());
-    print_bit(geometric.warning);
+    print_signed(rt, altitude.feet());
+    print_bit(rt, geometric.warning);
     let merit = geometric.merit;
-    print_merit(merit);
+    print_merit(rt, merit);
 }
 
-fn print_merit(merit: Merit) {
+fn print_merit(rt: &impl Print, merit: Merit) {
     match merit {
-        Merit::Metres(metres) => print_number(metres as u32),
-        Merit::Over => print(b" over"),
-        Merit::None => print(b" none"),
+        Merit::Metres(metres) => print_number(rt, metres as u32),
+        Merit::Over => print(rt, " over"),
+        Merit::None => print(rt, " none"),
     }
 }
 
-fn print_report(report: Report) {
-    print_byte(report.alert);
-    print_byte(report.address_type);
-    print_number(report.address);
+fn print_report(rt: &impl Print, report: Report) {
+    print_byte(rt, report.alert);
+    print_byte(rt, report.address_type);
+    print_number(rt, report.address);
     let position = report.position;
-    print_position(position);
+    print_position(rt, position);
     let altitude = report.altitude;
-    print_altitude(altitude);
+    print_altitude(rt, altitude);
     let track_kind = report.track_kind;
-    print_track_kind(track_kind);
-    print_bit(report.extrapolated);
-    print_bit(report.airborne);
-    print_byte(report.integrity);
-    print_byte(report.accuracy);
+    print_track_kind(rt, track_kind);
+    print_bit(rt, report.extrapolated);
+    print_bit(rt, report.airborne);
+    print_byte(rt, report.integrity);
+    print_byte(rt, report.accuracy);
     let speed = report.speed;
-    print_speed(speed);
+    print_speed(rt, speed);
     let climb = report.climb;
-    print_climb(climb);
-    print_byte(report.track);
-    print_byte(report.emitter);
+    print_climb(rt, climb);
+    print_byte(rt, report.track);
+    print_byte(rt, report.emitter);
     let call_sign = report.call_sign;
-    print_call_sign(call_sign);
-    print_byte(report.priority);
-    print_byte(report.spare);
+    print_call_sign(rt, call_sign);
+    print_byte(rt, report.priority);
+    print_byte(rt, report.spare);
 }
 
-fn print_position(position: Position) {
+fn print_position(rt: &impl Print, position: Position) {
     match position {
         Position::At {
             latitude,
             longitude,
         } => {
-            print_signed(latitude);
-            print_signed(longitude);
+            print_signed(rt, latitude);
+            print_signed(rt, longitude);
         }
-        Position::None => print(b" none none"),
+        Position::None => print(rt, " none none"),
     }
 }
 
-fn print_altitude(altitude: Altitude) {
+fn print_altitude(rt: &impl Print, altitude: Altitude) {
     match altitude {
-        Altitude::Known(steps) => print_signed(steps.feet()),
-        Altitude::None => print(b" none"),
+        Altitude::Known(steps) => print_signed(rt, steps.feet()),
+        Altitude::None => print(rt, " none"),
     }
 }
 
-fn print_track_kind(kind: TrackKind) {
+fn print_track_kind(rt: &impl Print, kind: TrackKind) {
     match kind {
-        TrackKind::NotValid => print(b" 0"),
-        TrackKind::TrueTrack => print(b" 1"),
-        TrackKind::MagneticHeading => print(b" 2"),
-        TrackKind::TrueHeading => print(b" 3"),
+        TrackKind::NotValid => print(rt, " 0"),
+        TrackKind::TrueTrack => print(rt, " 1"),
+        TrackKind::MagneticHeading => print(rt, " 2"),
+        TrackKind::TrueHeading => print(rt, " 3"),
     }
 }
 
-fn print_speed(speed: Speed) {
+fn print_speed(rt: &impl Print, speed: Speed) {
     match speed {
-        Speed::Knots(knots) => print_number(knots as u32),
-        Speed::Over => print(b" over"),
-        Speed::None => print(b" none"),
+        Speed::Knots(knots) => print_number(rt, knots as u32),
+        Speed::Over => print(rt, " over"),
+        Speed::None => print(rt, " none"),
     }
 }
 
-fn print_climb(climb: Climb) {
+fn print_climb(rt: &impl Print, climb: Climb) {
     match climb {
-        Climb::Steps(steps) => print_signed(steps),
-        Climb::Above => print(b" above"),
-        Climb::Below => print(b" below"),
-        Climb::None => print(b" none"),
+        Climb::Steps(steps) => print_signed(rt, steps),
+        Climb::Above => print(rt, " above"),
+        Climb::Below => print(rt, " below"),
+        Climb::None => print(rt, " none"),
     }
 }
 
-fn print_message(message: Message) {
+fn print_message(rt: &impl Print, message: Message) {
     match message {
-        Message::Heartbeat(x) => print_heartbeat(x),
-        Message::Initialization(x) => print_initialization(x),
+        Message::Heartbeat(x) => print_heartbeat(rt, x),
+        Message::Initialization(x) => print_initialization(rt, x),
         Message::Uplink(x) => {
-            print(b"uplink");
+            print(rt, "uplink");
             let reception = x.reception;
-            print_reception(reception);
+            print_reception(rt, reception);
         }
         Message::Height(x) => {
             let height = x.height;
-            print_height(height);
+            print_height(rt, height);
         }
         Message::Ownship(x) => {
-            print(b"ownship");
+            print(rt, "ownship");
             let report = x.report;
-            print_report(report);
+            print_report(rt, report);
         }
-        Message::Geometric(x) => print_geometric(x),
+        Message::Geometric(x) => print_geometric(rt, x),
         Message::Traffic(x) => {
-            print(b"traffic");
+            print(rt, "traffic");
             let report = x.report;
-            print_report(report);
+            print_report(rt, report);
         }
     }
 }
 
 // What writing gives.
-fn print_written(message: Message, payload: &[u8]) {
+fn print_written(rt: &impl Print, message: Message, payload: &[u8]) {
     let mut out = [0u8; 436];
     let written = messages::write(message, payload, &mut out);
     match written {
         Written::Bytes(n) => {
-            print(b" ");
-            printing::hex_bytes(STDOUT_FILENO, &out, n);
+            print(rt, " ");
+            printing::hex_bytes(rt, &out, n);
         }
         Written::Refused(n) => {
-            print(b" refused");
-            print_byte(n);
+            print(rt, " refused");
+            print_byte(rt, n);
         }
     }
 }
 
-fn print_read(part: &[u8]) {
+fn print_read(rt: &impl Print, part: &[u8]) {
     let reading = messages::read(part);
     match reading {
         Reading::Message(message) => {
-            print(b"0 ");
-            print_message(message);
-            print_written(message, uplink::payload(part));
+            print(rt, "0 ");
+            print_message(rt, message);
+            print_written(rt, message, uplink::payload(part));
         }
         Reading::Refused(n) => {
-            io::print_decimal(STDOUT_FILENO, n as u64);
+            let _ = print!(rt; "{n}");
         }
     }
-    print(b"\n");
+    print(rt, "\n");
 }
 
 fn number(high: u8, low: u8) -> usize
@@ -242,7 +240,7 @@ fn number(high: u8, low: u8) -> usize
 }
 
 // Answers where the next record starts: the input's end where this one is cut short.
-fn read_record(input: &[u8], at: usize) -> usize
+fn read_record(rt: &(impl Print + Eprint), input: &[u8], at: usize) -> usize
     requires { at + 2 ≤ length input.now }
     ensures { (at < result) × (result ≤ length input.now) }
 {
@@ -250,22 +248,22 @@ fn read_record(input: &[u8], at: usize) -> usize
     let start = at + 2;
     let end = start + size;
     if input.len() < end {
-        io::write_all(STDERR_FILENO, b"a message is cut short\n");
+        let _ = eprintln!(rt; "a message is cut short");
         return input.len();
     }
-    print_read(&input[start..end]);
+    print_read(rt, &input[start..end]);
     end
 }
 
-fn read_records(input: &[u8]) {
+fn read_records(rt: &(impl Print + Eprint), input: &[u8]) {
     let mut at = 0;
     while 2 <= input.len() - at {
-        at = read_record(input, at);
+        at = read_record(rt, input, at);
     }
 }
 
-fn main() {
-    let mut input = io::large_buffer();
-    let n = io::read_full(STDIN_FILENO, &mut input);
-    read_records(&input[..n]);
+fn main(rt: HostRuntime) {
+    let mut input = [0u8; 65536];
+    let n = printing::read_full(&mut rt.stdin(), &mut input);
+    read_records(&rt, &input[..n]);
 }

@@ -12,7 +12,9 @@ use Rattle.fcs.specs.Fcs.{fcs}
 use Rattle.framing.specs.Stuffing.{flag, Unstuffed, unstuff}
 use Rattle.framing.proofs.Unstuffing.{unstuff_most}
 use Rattle.collecting.specs.Stream.{Reply, nothing, message, refused}
-use Rattle.collecting.specs.Between.{whole, first_fault, stuffed_taken, verdict, reply_between}
+use Rattle.collecting.specs.Between.{whole, verdict, reply_between}
+use Rattle.recording.specs.Steps.{first_fault, stuffed_taken}
+use Rattle.recording.proofs.Judging.{verdict_judged}
 use Rattle.recording.specs.Cut.{onto, cut, closed_parts, between_flags, flag_count}
 use Rattle.recording.specs.Recording.{end_to_end, if_answer, answers_between, each_answer, message_in, recorded}
 use Rattle.recording.specs.Claims.{Enough}
@@ -21,8 +23,8 @@ use Rattle.recording.proofs.Turns.{each_once}
 
 -- a message is some of the bytes of its part
 message_most : (bs : List ℕ) → length (message_in (reply_between bs)) ≤ length bs
-unfolding reply_between verdict whole
-message_most bs = go (eqb (first_fault u) 0) (eqb (length ys) 0) (ltb (length ys) 3) (eqb (fcs (take (length ys - 2) ys)) (256 * get_or ys (length ys - 1) 0 + get_or ys (length ys - 2) 0)) (stuffed_taken (length bs) u)
+unfolding reply_between whole
+message_most bs = rw (verdict_judged (length bs) u) (go (eqb (first_fault u) 0) (eqb (length ys) 0) (ltb (length ys) 3) (eqb (fcs (take (length ys - 2) ys)) (256 * get_or ys (length ys - 1) 0 + get_or ys (length ys - 2) 0)) (stuffed_taken (length bs) u))
   where
     u : Unstuffed
     u = unstuff bs

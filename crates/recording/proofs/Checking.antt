@@ -14,9 +14,10 @@ use Rattle.fcs.specs.Fcs.{fcs}
 use Rattle.framing.specs.Stuffing.{unstuffed, unstuff}
 use Rattle.collecting.specs.declared.Answer.TheVariants.{None, Accepted, Refused}
 use Rattle.collecting.specs.Stream.{nothing, message, refused, reply, unflagged}
-use Rattle.collecting.specs.Between.{whole, stuffed_taken, judged, verdict, reply_between}
+use Rattle.collecting.specs.Between.{whole, verdict, reply_between}
+use Rattle.recording.proofs.Judging.{verdict_judged}
 use Rattle.recording.specs.declared.UnstuffedPart.{UnstuffedPart}
-use Rattle.recording.specs.Steps.{part_bytes, unstuffed_part, checked_part, IsReply, reply_to_part}
+use Rattle.recording.specs.Steps.{part_bytes, unstuffed_part, checked_part, IsReply, reply_to_part, stuffed_taken, judged}
 
 module _ (u : UnstuffedPart) (room : List ℕ) where
   pub faulty : (u.fault ≡ 0 → ⊥) → IsReply (Refused u.fault u.taken) room (checked_part u room)
@@ -84,8 +85,8 @@ module _ (part room₀ : List ℕ) (fits : length room₀ ≡ 438) {u : Unstuffe
       (omega (arith, count, most, size), size)
 
   pub answered_part : checked_part u room ≡ reply_between part
-  unfolding unstuffed_part reply_between verdict written
-  answered_part = rw (e, f, take_at (part_bytes part) (drop (length (part_bytes part)) room₀) (length (part_bytes part)) refl) (go (ltb 438 (length bytes)) refl (stuffed_taken (length part) (unstuff part)))
+  unfolding unstuffed_part reply_between written
+  answered_part = rw (e, f, take_at (part_bytes part) (drop (length (part_bytes part)) room₀) (length (part_bytes part)) refl) (go (ltb 438 (length bytes)) refl (stuffed_taken (length part) (unstuff part)) ∙ sym (verdict_judged (length part) (unstuff part)))
     where
       bytes : List ℕ
       bytes = (unstuff part).bytes

@@ -24,10 +24,10 @@ use reference::xorshift::Xorshift;
 const SEEDS: u64 = 60;
 
 fn program() -> PathBuf {
-    let program = Path::new(env!("CARGO_MANIFEST_DIR")).join("../../target/bin/lister");
+    let program = Path::new(env!("CARGO_MANIFEST_DIR")).join("../../crates/lister/out/lister");
     assert!(
         program.is_file(),
-        "{} is not there: run `rt check lister` first",
+        "{} is not there: run `rt run` in crates/lister first",
         program.display()
     );
     program

@@ -11,6 +11,7 @@ use Rattle.collecting.specs.Stream.{Reply}
 use Rattle.recording.specs.Recording.{end_to_end, answers_between, each_answer, message_in}
 use Rattle.recording.proofs.Turns.{answers_from, none_from, from_first_flag, turn_count, turn_size, turn_ends}
 use Rattle.recording.proofs.Bounding.{most}
+use Rattle.recording.proofs.measure.Goals.{then-is_answered, else-is_answered}
 use Rattle.recording.proofs.measure.Goals as goal
 
 -- an answer is one entry
@@ -41,7 +42,7 @@ loop-i-preserved c =
     let count = turn_count bs c.loop-i.i _ _ w in (
       (turn_ends bs c.loop-i.i _ _ w (omega arith)).1,
       w.size,
-      ⊎_elim (λ z. omega (arith, count, counted one z.0.taken, z.1, c.loop-i.invariant.2)) (λ z. omega (arith, count, counted one z.0.left, z.1, c.loop-i.invariant.2)) c.if-is_answered.branch,
+      (elim c.if-is_answered.branch [ then-is_answered w ↦ omega (arith, count, counted one w.if-is_answered.true, w.entries-is, c.loop-i.invariant.2) | else-is_answered w ↦ omega (arith, count, counted one w.if-is_answered.false, w.entries-is, c.loop-i.invariant.2) ]),
       omega (arith, c.message_length-bytes.ensures, turn_size bs c.loop-i.i _ _ w, c.loop-i.invariant.3),
     )
 

@@ -60,7 +60,7 @@ put_entry-n-requires c =
 pub put_message-k-requires : goal.put_message-k-requires
 put_message-k-requires c =
     let bs = c.args.recording.now in
-    let room = c.answer_part-part.new.1.1.0 in
+    let room = c.answer_part-part.new.room in
     let size = length-take-le c.message_length-size.result room (omega (arith, c.message_length-size.ensures, c.answer_part-part.ensures.answers.within)) in
     let fits : c.loop-i.k + length (take c.message_length-size.result room) ≤ length c.loop-i.messages =
     omega (arith, size, c.message_length-size.ensures, turn_size bs c.loop-i.i _ _ c.answer_part-part.ensures, rest_size c.loop-i.invariant.5, (fitting bs _ _ c.requires).1, c.loop-i.invariant.2) in

@@ -10,7 +10,7 @@ use borrow.Author.Rules.{rules}
 use Rattle.report.proofs.signed_in.Goals as goal
 
 pub returns-then-field-half : goal.returns-then-field-half
-returns-then-field-half c = low w32 _ _ c.if-field-half.true (omega (arith, c.requires.1))
+returns-then-field-half c = low w32 _ _ c.if-field-half.true (omega (arith, c.requires.half_bound))
 
 pub returns : goal.returns
-returns c = ap (λ (d : ℕ). to_z w32 (4294967295 - d)) c.less.ensures ∙ high w32 _ _ c.if-field-half.false (omega (arith, c.requires.1))
+returns c = ap (λ (d : ℕ). to_z w32 (4294967295 - d)) c.less.ensures ∙ high w32 _ _ c.if-field-half.false (omega (arith, c.requires.half_bound))

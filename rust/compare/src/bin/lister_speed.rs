@@ -2,8 +2,8 @@
 //! reference's, as two programs on one recording of 64 MiB, and whether their
 //! listings are the same.
 //!
-//! Both have to be built: `rt check lister`, and `cargo build --release` of the
-//! reference's `lister` next to this program.
+//! Both have to be built: `rt run` in crates/lister, and `cargo build --release` of
+//! the reference's `lister` next to this program.
 
 use std::error::Error;
 use std::fs::{self, File};
@@ -21,15 +21,15 @@ const WARM_UP: usize = 1;
 type Result<T> = std::result::Result<T, Box<dyn Error>>;
 
 fn main() -> Result<()> {
-    let target = Path::new(env!("CARGO_MANIFEST_DIR")).join("../../target");
+    let crates = Path::new(env!("CARGO_MANIFEST_DIR")).join("../../crates");
     let beside = std::env::current_exe()?.with_file_name("lister");
-    let programs = [target.join("bin/lister"), beside];
+    let programs = [crates.join("lister/out/lister"), beside];
     for program in &programs {
         if !program.is_file() {
             return Err(format!("{} is not built", program.display()).into());
         }
     }
-    let recording = target.join("lister_speed.gdl90");
+    let recording = programs[1].with_file_name("lister_speed.gdl90");
     fs::write(&recording, readable_recording(LENGTH))?;
     let listing = same_listing(&programs, &recording)?;
     let lines = listing.iter().filter(|&&byte| byte == b'\n').count() - 2;
