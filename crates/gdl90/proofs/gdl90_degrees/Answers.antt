@@ -16,20 +16,20 @@ use Rattle.gdl90.proofs.gdl90_degrees.Goals as goal
 
 -- the answer is the definition's, and so exact
 exact : (a o : ℤ) {d : InDegrees} → SFits w32 a → SFits w32 o → d ≡ in_degrees (to_z w32 (of_z w32 a)) (to_z w32 (of_z w32 o))
-    → (degrees_answer d ≡ degrees_answer (in_degrees a o)) × ExactAnswer a o (degrees_answer d)
+    → ExactAnswer a o (degrees_answer d)
 unfolding ExactlyAt
 exact a o {d} l r e =
     let f : d ≡ in_degrees a o = simp (to_z-of_z l, to_z-of_z r) at e in
-    (ap degrees_answer f, told d (subst (ExactlyAt a o) (sym f) (exact_degrees a o)))
+    told d (subst (ExactlyAt a o) (sym f) (exact_degrees a o))
   where
     told : (d : InDegrees) → ExactlyAt a o d → ExactAnswer a o (degrees_answer d)
     told (At x) h z = h
     told (Refused k) h z = absurd (omega arith)
 
-pub returns-in-At : goal.returns-in-At
-returns-in-At c =
-    exact c.args.latitude c.args.longitude c.ranges.latitude c.ranges.longitude (sym c.in-At.is ∙ c.in_degrees.ensures.value)
+pub returns-in-At-clause-exact : goal.returns-in-At-clause-exact
+returns-in-At-clause-exact c =
+    exact c.args.latitude c.args.longitude {d = At c.in-At.d} c.ranges.latitude c.ranges.longitude (sym c.in-At.is ∙ c.in_degrees.ensures.value)
 
-pub returns-in-Refused : goal.returns-in-Refused
-returns-in-Refused c =
-    exact c.args.latitude c.args.longitude c.ranges.latitude c.ranges.longitude (sym c.in-Refused.is ∙ c.in_degrees.ensures.value)
+pub returns-in-Refused-clause-exact : goal.returns-in-Refused-clause-exact
+returns-in-Refused-clause-exact c =
+    exact c.args.latitude c.args.longitude {d = Refused c.in-Refused.number} c.ranges.latitude c.ranges.longitude (sym c.in-Refused.is ∙ c.in_degrees.ensures.value)
