@@ -1,4 +1,4 @@
-/* GDL 90 bytes: frames, collecting, messages, uplink payloads, weather texts, units. Link with libgdl90.a (`rt staticlib gdl90`),
+/* GDL 90 bytes: frames, collecting, messages, uplink payloads, weather texts, units. Link with libgdl90.a (README, 'Link it from C'),
    which is for x86-64 with the System V ABI, so for Linux: structs are handed over by value. For C99 or newer and C++.
 
    Every function takes every input, ends, keeps nothing, and touches nothing but the memory it is given, so any thread may call it.

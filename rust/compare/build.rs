@@ -7,6 +7,6 @@ use std::process::ExitCode;
 
 fn main() -> ExitCode {
     let name = "by_value_benchmark";
-    let folder = archive::check_target().and_then(|()| archive::made(name));
+    let folder = archive::check_target().and_then(|()| archive::made(name, name));
     archive::link(name, folder)
 }

@@ -35,12 +35,12 @@ pub fn check_target() -> Result<(), String> {
     ))
 }
 
-/// The folder of this checkout that has the archive of a crate of Rattle's.
-pub fn made(name: &str) -> Result<PathBuf, String> {
+/// The folder of this checkout that has an archive, made of a crate of Rattle's.
+pub fn made(name: &str, of: &str) -> Result<PathBuf, String> {
     let root = Path::new(env!("CARGO_MANIFEST_DIR")).join("../..");
     let folder = root.join("target/staticlib");
     let archive = folder.join(format!("lib{name}.a"));
-    let sources = sources(&root, name)?;
+    let sources = sources(&root, of)?;
     for watched in sources.iter().chain([&archive]) {
         println!("cargo:rerun-if-changed={}", watched.display());
     }
@@ -48,10 +48,8 @@ pub fn made(name: &str) -> Result<PathBuf, String> {
     if modified(&archive) <= newest {
         // A source that is saved while `rt` proves counts as newer.
         let begun = SystemTime::now();
-        make(&root, name, &archive)?;
-        let file = File::options().write(true).open(&archive);
-        file.and_then(|file| file.set_modified(begun))
-            .map_err(|error| format!("{}: {error}", archive.display()))?;
+        let built = make(&root, of, &archive)?;
+        put(&built, &archive, begun).map_err(|error| format!("{}: {error}", archive.display()))?;
     }
     Ok(folder)
 }
@@ -64,10 +62,11 @@ fn sources(root: &Path, name: &str) -> Result<Vec<PathBuf>, String> {
     let mut crates = BTreeSet::new();
     let mut left = vec![name];
     while let Some(name) = left.pop() {
-        let is_it = |line: &&str| line.split(':').next() == Some(name);
-        let line = text.lines().find(is_it);
-        if let (Some(line), true) = (line, crates.insert(name)) {
-            left.extend(line[name.len() + 1..].split_whitespace());
+        // A static library has that word behind its name.
+        let is_it = |(head, _): &(&str, &str)| head.split_whitespace().next() == Some(name);
+        let mut lines = text.lines().filter_map(|line| line.split_once(':'));
+        if let (Some((_, below)), true) = (lines.find(is_it), crates.insert(name)) {
+            left.extend(below.split_whitespace());
         }
     }
     if crates.is_empty() {
@@ -95,26 +94,29 @@ fn newest(path: &Path) -> Option<SystemTime> {
     inside.chain(modified(path)).max()
 }
 
-/// `rt` proves the crate before it writes the archive.
-fn make(root: &Path, name: &str, archive: &Path) -> Result<(), String> {
+/// `rt` proves the crate before it writes the archive, which stays in the crate's
+/// folder.
+fn make(root: &Path, of: &str, archive: &Path) -> Result<PathBuf, String> {
+    let folder = root.join("crates").join(of);
     let status = Command::new("rt")
-        .args(["staticlib", name])
-        .current_dir(root)
+        .arg("lib")
+        .current_dir(&folder)
         // Cargo takes what a build script prints as commands.
         .stdout(std::io::stderr())
         .status()
-        .map_err(|error| not_run(name, archive, &error))?;
+        .map_err(|error| not_run(of, archive, &error))?;
     if !status.success() {
-        return Err(format!("`rt staticlib {name}` failed: {status}"));
+        return Err(format!("`rt lib` in crates/{of} failed: {status}"));
     }
-    if !archive.is_file() {
-        let archive = archive.display();
-        return Err(format!("`rt staticlib {name}` made no {archive}"));
+    let built = folder.join(format!("out/lib{of}.a"));
+    if !built.is_file() {
+        let built = built.display();
+        return Err(format!("`rt lib` in crates/{of} made no {built}"));
     }
-    Ok(())
+    Ok(built)
 }
 
-fn not_run(name: &str, archive: &Path, error: &std::io::Error) -> String {
+fn not_run(of: &str, archive: &Path, error: &std::io::Error) -> String {
     let state = match archive.is_file() {
         true => "older than its sources",
         false => "not there",
@@ -124,5 +126,15 @@ fn not_run(name: &str, archive: &Path, error: &std::io::Error) -> String {
         _ => format!("rt, the Rattle toolchain, does not run: {error}"),
     };
     let archive = archive.display();
-    format!("{archive} is {state}, and {reason}: `rt staticlib {name}` makes the archive")
+    format!("{archive} is {state}, and {reason}: `rt lib` in crates/{of} makes it")
+}
+
+/// Copies an archive, and gives the copy this time.
+fn put(built: &Path, archive: &Path, time: SystemTime) -> std::io::Result<()> {
+    if let Some(folder) = archive.parent() {
+        fs::create_dir_all(folder)?;
+    }
+    fs::copy(built, archive)?;
+    let file = File::options().write(true).open(archive)?;
+    file.set_modified(time)
 }

@@ -17,7 +17,7 @@ fn found() -> Result<PathBuf, String> {
     archive::check_target()?;
     match std::env::var_os("GDL90_LIB_DIR") {
         Some(folder) => given(PathBuf::from(folder)),
-        None => archive::made("gdl90").map_err(|reason| {
+        None => archive::made("gdl90", "gdl90_c").map_err(|reason| {
             format!("{reason}. GDL90_LIB_DIR can name another folder that has {ARCHIVE}")
         }),
     }

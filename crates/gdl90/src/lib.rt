@@ -1,4 +1,4 @@
-// The library's functions for C, and for Rust by way of C: thin, and with the library's own promises.
+// The library's functions for C, and for Rust by way of C: thin, and with the library's own promises. crates/gdl90_c exports them.
 #![tactic(auto)]
 
 ghost use Rattle.std.specs.Prelude.{◌≡◌, length};
@@ -46,8 +46,7 @@ use units::{GeometricSteps, InDegrees, PressureSteps, TerrainFeet};
 const LAST_TRACK_KIND: u8 = 3;
 
 // `fcs::check_sequence`.
-#[unsafe(no_mangle)]
-pub extern "C" fn gdl90_check_sequence(message: &[u8]) -> u16
+pub fn gdl90_check_sequence(message: &[u8]) -> u16
     ensures { result ≡ fcs message.now }
 {
     fcs::check_sequence(message)
@@ -62,8 +61,7 @@ pub struct FrameAnswer {
 }
 
 // `framing::frame`.
-#[unsafe(no_mangle)]
-pub extern "C" fn gdl90_frame(message: &[u8], out: &mut [u8]) -> FrameAnswer
+pub fn gdl90_frame(message: &[u8], out: &mut [u8]) -> FrameAnswer
     ensures answer { result ≡ frame_answer (framing message.now (length out.old)) }
     ensures output { out.new ≡ written (framed_output (framing message.now (length out.old)) message.now) out.old }
 {
@@ -108,8 +106,7 @@ pub struct FeedAnswer {
 }
 
 // `collecting::feed`.
-#[unsafe(no_mangle)]
-pub extern "C" fn gdl90_feed(
+pub fn gdl90_feed(
     control: FeedControl,
     room: &mut [u8; 438],
     message: &mut [u8; 436],
@@ -122,8 +119,7 @@ pub extern "C" fn gdl90_feed(
 }
 
 // The same with a tally lent: the answer, where there is one, is counted.
-#[unsafe(no_mangle)]
-pub extern "C" fn gdl90_feed_tallied(
+pub fn gdl90_feed_tallied(
     control: FeedControl,
     room: &mut [u8; 438],
     message: &mut [u8; 436],
@@ -259,8 +255,7 @@ pub struct RecordingAnswer {
 }
 
 // `recording::read_recording`.
-#[unsafe(no_mangle)]
-pub extern "C" fn gdl90_read_recording(
+pub fn gdl90_read_recording(
     recording: &[u8],
     list: &mut [usize],
     messages: &mut [u8],
@@ -289,8 +284,7 @@ pub struct KindAnswer {
 }
 
 // `messages::kind_in`: which of the functions below reads the message.
-#[unsafe(no_mangle)]
-pub extern "C" fn gdl90_kind(message: &[u8]) -> KindAnswer
+pub fn gdl90_kind(message: &[u8]) -> KindAnswer
     ensures { result ≡ kind_answer message.now }
 {
     let number = kind_number(messages::kind_in(message));
@@ -318,22 +312,19 @@ fn kind_number(kind: Kind) -> u8
 }
 
 // A message of one kind: the number, 6 also for another kind's id; the struct, all zero with a refusal.
-#[unsafe(no_mangle)]
-pub extern "C" fn gdl90_read_heartbeat(message: &[u8]) -> HeartbeatRead
+pub fn gdl90_read_heartbeat(message: &[u8]) -> HeartbeatRead
     ensures { result ≡ heartbeat_read message.now }
 {
     heartbeat::read_heartbeat(message)
 }
 
-#[unsafe(no_mangle)]
-pub extern "C" fn gdl90_read_initialization(message: &[u8]) -> InitializationRead
+pub fn gdl90_read_initialization(message: &[u8]) -> InitializationRead
     ensures { result ≡ initialization_read message.now }
 {
     initialization::read_initialization(message)
 }
 
-#[unsafe(no_mangle)]
-pub extern "C" fn gdl90_read_uplink(message: &[u8]) -> FlatUplinkRead
+pub fn gdl90_read_uplink(message: &[u8]) -> FlatUplinkRead
     ensures { result ≡ uplink_answer message.now }
 {
     let read = uplink::read_uplink(message);
@@ -345,8 +336,7 @@ pub extern "C" fn gdl90_read_uplink(message: &[u8]) -> FlatUplinkRead
     }
 }
 
-#[unsafe(no_mangle)]
-pub extern "C" fn gdl90_read_height(message: &[u8]) -> FlatHeightRead
+pub fn gdl90_read_height(message: &[u8]) -> FlatHeightRead
     ensures { result ≡ height_answer message.now }
 {
     let read = altitudes::read_height(message);
@@ -358,15 +348,13 @@ pub extern "C" fn gdl90_read_height(message: &[u8]) -> FlatHeightRead
     }
 }
 
-#[unsafe(no_mangle)]
-pub extern "C" fn gdl90_read_ownship(message: &[u8]) -> FlatReportRead
+pub fn gdl90_read_ownship(message: &[u8]) -> FlatReportRead
     ensures { result ≡ ownship_read message.now }
 {
     report::read_ownship(message)
 }
 
-#[unsafe(no_mangle)]
-pub extern "C" fn gdl90_read_geometric(message: &[u8]) -> FlatGeometricRead
+pub fn gdl90_read_geometric(message: &[u8]) -> FlatGeometricRead
     ensures { result ≡ geometric_answer message.now }
 {
     let read = altitudes::read_geometric(message);
@@ -378,8 +366,7 @@ pub extern "C" fn gdl90_read_geometric(message: &[u8]) -> FlatGeometricRead
     }
 }
 
-#[unsafe(no_mangle)]
-pub extern "C" fn gdl90_read_traffic(message: &[u8]) -> FlatReportRead
+pub fn gdl90_read_traffic(message: &[u8]) -> FlatReportRead
     ensures { result ≡ traffic_read message.now }
 {
     report::read_traffic(message)
@@ -394,31 +381,21 @@ pub struct WriteAnswer {
 }
 
 // A struct's bytes to the start of the output: the number and how many; an uplink's payload is given beside it.
-#[unsafe(no_mangle)]
-pub extern "C" fn gdl90_write_heartbeat(heartbeat: Heartbeat, out: &mut [u8]) -> WriteAnswer
+pub fn gdl90_write_heartbeat(heartbeat: Heartbeat, out: &mut [u8]) -> WriteAnswer
     ensures { WritesHeartbeat heartbeat out.old result out.new }
 {
     let written = heartbeat::write_heartbeat(heartbeat, out);
     write_answer(written)
 }
 
-#[unsafe(no_mangle)]
-pub extern "C" fn gdl90_write_initialization(
-    initialization: Initialization,
-    out: &mut [u8],
-) -> WriteAnswer
+pub fn gdl90_write_initialization(initialization: Initialization, out: &mut [u8]) -> WriteAnswer
     ensures { WritesInitialization initialization out.old result out.new }
 {
     let written = initialization::write_initialization(initialization, out);
     write_answer(written)
 }
 
-#[unsafe(no_mangle)]
-pub extern "C" fn gdl90_write_uplink(
-    uplink: FlatUplink,
-    payload: &[u8],
-    out: &mut [u8],
-) -> WriteAnswer
+pub fn gdl90_write_uplink(uplink: FlatUplink, payload: &[u8], out: &mut [u8]) -> WriteAnswer
     ensures { WritesUplink uplink payload.now out.old result out.new }
 {
     let value = c_structs::uplink_from(uplink);
@@ -426,8 +403,7 @@ pub extern "C" fn gdl90_write_uplink(
     write_answer(written)
 }
 
-#[unsafe(no_mangle)]
-pub extern "C" fn gdl90_write_height(height: FlatHeight, out: &mut [u8]) -> WriteAnswer
+pub fn gdl90_write_height(height: FlatHeight, out: &mut [u8]) -> WriteAnswer
     ensures { WritesHeight height out.old result out.new }
 {
     let value = c_structs::terrain_from(height);
@@ -435,15 +411,13 @@ pub extern "C" fn gdl90_write_height(height: FlatHeight, out: &mut [u8]) -> Writ
     write_answer(written)
 }
 
-#[unsafe(no_mangle)]
-pub extern "C" fn gdl90_write_ownship(report: FlatReport, out: &mut [u8]) -> WriteAnswer
+pub fn gdl90_write_ownship(report: FlatReport, out: &mut [u8]) -> WriteAnswer
     ensures { WritesOwnship report out.old result out.new }
 {
     write_report(Ownship::ID, report, out)
 }
 
-#[unsafe(no_mangle)]
-pub extern "C" fn gdl90_write_geometric(geometric: FlatGeometric, out: &mut [u8]) -> WriteAnswer
+pub fn gdl90_write_geometric(geometric: FlatGeometric, out: &mut [u8]) -> WriteAnswer
     ensures { WritesGeometric geometric out.old result out.new }
 {
     let value = c_structs::geometric_from(geometric);
@@ -451,8 +425,7 @@ pub extern "C" fn gdl90_write_geometric(geometric: FlatGeometric, out: &mut [u8]
     write_answer(written)
 }
 
-#[unsafe(no_mangle)]
-pub extern "C" fn gdl90_write_traffic(report: FlatReport, out: &mut [u8]) -> WriteAnswer
+pub fn gdl90_write_traffic(report: FlatReport, out: &mut [u8]) -> WriteAnswer
     ensures { WritesTraffic report out.old result out.new }
 {
     write_report(Traffic::ID, report, out)
@@ -492,8 +465,7 @@ pub struct PayloadListAnswer {
 }
 
 // `information_frames::list`.
-#[unsafe(no_mangle)]
-pub extern "C" fn gdl90_payload_list(payload: &[u8]) -> PayloadListAnswer
+pub fn gdl90_payload_list(payload: &[u8]) -> PayloadListAnswer
     ensures { result ≡ payload_list_answer (frame_list (payload_frames payload.now)) }
 {
     match information_frames::list(payload) {
@@ -522,8 +494,7 @@ pub struct PayloadNthAnswer {
 }
 
 // `information_frames::nth`.
-#[unsafe(no_mangle)]
-pub extern "C" fn gdl90_payload_nth(payload: &[u8], n: usize) -> PayloadNthAnswer
+pub fn gdl90_payload_nth(payload: &[u8], n: usize) -> PayloadNthAnswer
     ensures { result ≡ payload_nth_answer (nth_frame (payload_frames payload.now) n) }
 {
     match information_frames::nth(payload, n) {
@@ -551,8 +522,7 @@ fn no_frame(number: u8) -> PayloadNthAnswer
 }
 
 // `information_frames::add`: the number, 0 where the frame was added.
-#[unsafe(no_mangle)]
-pub extern "C" fn gdl90_payload_add(payload: &mut [u8], kind: u8, bytes: &[u8]) -> u8
+pub fn gdl90_payload_add(payload: &mut [u8], kind: u8, bytes: &[u8]) -> u8
     ensures answer { result ≡ added_number (adding (payload_frames payload.old) kind (length bytes.now)) }
     ensures payload { payload.new ≡ payload_after (adding (payload_frames payload.old) kind (length bytes.now)) payload.old kind bytes.now }
 {
@@ -574,8 +544,7 @@ pub struct TextAnswer {
 }
 
 // `generic_text::read`.
-#[unsafe(no_mangle)]
-pub extern "C" fn gdl90_read_text(apdu: &[u8], out: &mut [u8]) -> TextAnswer
+pub fn gdl90_read_text(apdu: &[u8], out: &mut [u8]) -> TextAnswer
     ensures { ReadsText apdu.now out.old result out.new }
 {
     let reading = generic_text::read(apdu, out);
@@ -609,8 +578,7 @@ fn text_answer(reading: TextReading) -> TextAnswer
 }
 
 // `generic_text::write`.
-#[unsafe(no_mangle)]
-pub extern "C" fn gdl90_write_text(
+pub fn gdl90_write_text(
     hours: u8,
     minutes: u8,
     padding: u8,
@@ -624,22 +592,19 @@ pub extern "C" fn gdl90_write_text(
 }
 
 // Feet, from each of the three units, for every value of its width.
-#[unsafe(no_mangle)]
-pub extern "C" fn gdl90_pressure_feet(altitude: PressureSteps) -> i32
+pub fn gdl90_pressure_feet(altitude: PressureSteps) -> i32
     ensures { result ≡ pressure_feet altitude }
 {
     altitude.feet()
 }
 
-#[unsafe(no_mangle)]
-pub extern "C" fn gdl90_geometric_feet(geometric: GeometricSteps) -> i32
+pub fn gdl90_geometric_feet(geometric: GeometricSteps) -> i32
     ensures { result ≡ geometric_feet geometric }
 {
     geometric.feet()
 }
 
-#[unsafe(no_mangle)]
-pub extern "C" fn gdl90_terrain_feet(height: TerrainFeet) -> i32
+pub fn gdl90_terrain_feet(height: TerrainFeet) -> i32
     ensures { result ≡ terrain_feet height }
 {
     height.feet()
@@ -655,8 +620,7 @@ pub struct DegreesAnswer {
 }
 
 // `units::in_degrees`.
-#[unsafe(no_mangle)]
-pub extern "C" fn gdl90_degrees(latitude: i32, longitude: i32) -> DegreesAnswer
+pub fn gdl90_degrees(latitude: i32, longitude: i32) -> DegreesAnswer
     ensures value { result ≡ degrees_answer (in_degrees latitude longitude) }
     ensures exact { ExactAnswer latitude longitude result }
 {

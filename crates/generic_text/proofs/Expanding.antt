@@ -2,18 +2,17 @@
 -- Assumes nothing.
 use mathlib.Core.Path.{◌≡◌, refl, sym, ap, ◌∙◌}
 use Prim.Native.Nat.{ℕ, zero, suc, ◌+◌, ◌-◌, ◌≤◌, ◌<◌, min}
-use mathlib.Core.List.{List, [], ◌∷◌, ◌++◌, append-nil}
+use mathlib.Core.List.{List, [], ◌∷◌, ◌++◌}
 use mathlib.Core.Option.{Option, none, some}
 use native.Mathlib.Omega.{arith}
 use lib.ListN.{length, replicate, length-append}
 use Rattle.numbers.specs.Lent.{written, Stored}
-use Rattle.numbers.proofs.Storing.{Rest, rest_more, rest_none, rest_size, from_first}
+use Rattle.numbers.proofs.Storing.{Rest, rest_more, rest_none, from_first}
 use Rattle.generic_text.specs.declared.Cursor.{Cursor}
 use Rattle.generic_text.specs.declared.Run.{Run}
-use Rattle.generic_text.specs.declared.Measured.TheVariants as measure
 use Rattle.generic_text.specs.Texts.{before, text_of_codes}
-use Rattle.generic_text.proofs.Texts.{before_none, before_more}
-use Rattle.generic_text.specs.Cursor.{Even, codes_from, behind_header, Passes, NextRun, Fits, or_no_bytes, measured}
+use Rattle.generic_text.proofs.Texts.{before_more}
+use Rattle.generic_text.specs.Cursor.{Even, codes_from, behind_header, Passes, NextRun, Fits, or_no_bytes}
 
 -- a byte stored, of so many
 pub repeated : (n a : ℕ) → 0 < n → replicate n a ≡ (a ∷ []) ++ replicate (n - 1) a
@@ -33,9 +32,6 @@ module _ (apdu : List ℕ) where
     pub counts : n ≡ min (length passed) (room + 1)
     pub even : Even s
 
-  pub count_start : (room : ℕ) → Counted room behind_header 0
-  count_start room = record { passed = []; is = before_none _; counts = omega arith; even = omega arith }
-
   module _ {room n : ℕ} {s : Cursor} (c : Counted room s n) where
     pub count_more : (xs : List ℕ) (k m : ℕ) {t : Cursor} → length xs ≡ k → Passes apdu (codes_from apdu s) xs t → m ≡ min (n + k) (room + 1) → Counted room t m
     count_more xs k m {t} l h e = record {
@@ -44,12 +40,6 @@ module _ (apdu : List ℕ) where
       counts = omega (arith, e, c.counts, length-append c.passed xs);
       even = h.even;
     }
-
-    pub count_end : text_of_codes (codes_from apdu s) ≡ some [] → measure.Length n ≡ measured (text_of_codes (codes_from apdu behind_header)) room
-    count_end h = sym (ap (λ (t : Option (List ℕ)). measured t room) (c.is ∙ ap (before c.passed) h) ∙ ap measure.Length (omega (arith, c.counts, ap length (append-nil c.passed))))
-
-    pub count_fault : text_of_codes (codes_from apdu s) ≡ none → measure.Fault ≡ measured (text_of_codes (codes_from apdu behind_header)) room
-    count_fault h = sym (ap (λ (t : Option (List ℕ)). measured t room) (c.is ∙ ap (before c.passed) h))
 
   -- the text's bytes were stored before `at`, up to s
   pub record Expanded (out left : List ℕ) (s : Cursor) (at : ℕ) : Type 0 where
@@ -62,17 +52,10 @@ module _ (apdu : List ℕ) where
   is_text (some t) room h = (refl, h)
   is_text none room h = absurd h
 
-  pub expand_start : (out : List ℕ) → Fits (text_of_codes (codes_from apdu behind_header)) (length out) → Expanded out out behind_header 0
-  expand_start out h = record { rest = _; is = (is_text _ _ h).0; stores = λ last left s. s; even = omega arith }
-
   module _ {out left : List ℕ} {s : Cursor} {at : ℕ} (x : Expanded out left s at) where
-    module _ (xs : List ℕ) (k : ℕ) {t : Cursor} (size : length xs ≡ k) (h : Passes apdu (codes_from apdu s) xs t) where
+    module _ (xs : List ℕ) {t : Cursor} (h : Passes apdu (codes_from apdu s) xs t) where
       tail : (text_of_codes (codes_from apdu t) ≡ some (or_no_bytes (text_of_codes (codes_from apdu t)))) × (x.rest ≡ xs ++ or_no_bytes (text_of_codes (codes_from apdu t)))
       tail = behind xs x.rest (text_of_codes (codes_from apdu t)) (sym h.is ∙ x.is)
-
-      pub expand_room : Fits (text_of_codes (codes_from apdu behind_header)) (length out) → at + k ≤ length out
-      expand_room f =
-          omega (arith, rest_size x.stores, ap length tail.1, length-append xs (or_no_bytes (text_of_codes (codes_from apdu t))), (is_text (text_of_codes (codes_from apdu behind_header)) (length out) f).1)
 
       pub expand_more : {next : ℕ} {after : List ℕ} → Stored left at xs next after → Expanded out after t next
       expand_more stored = record { rest = _; is = tail.0; stores = rest_more stored (rw tail.1 at x.stores); even = h.even }

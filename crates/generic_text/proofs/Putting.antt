@@ -86,9 +86,6 @@ module _ (text : List ℕ) (i : ℕ) where
           ∙ four_bits a b c 0 (replicate 7 0) (small a _ ea) (small b _ eb) (small c _ ec) (omega arith)
 
 module _ {out text : List ℕ} where
-  pub fours_start : PutFours out text 0 4 out
-  fours_start = record { bytes = []; stored = record { ends = refl; leaves = refl }; rest = refl }
-
   module _ {mid : List ℕ} {i at : ℕ} (p : PutFours out text i at mid) (h : i + 4 ≤ length text) where
     abbrev code : ℕ → ℕ
     code k = code_of (get_or text (i + k) 0)

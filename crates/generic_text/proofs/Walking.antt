@@ -19,7 +19,7 @@ use Rattle.characters.specs.Characters.{code_characters, character_of}
 use Rattle.generic_text.specs.declared.Cursor.{Cursor}
 use Rattle.generic_text.specs.declared.Run.{Run}
 use Rattle.generic_text.specs.Texts.{before, text_of_codes, AreCharacters}
-use Rattle.generic_text.specs.Cursor.{Even, codes_from, start_at, NextCode, Passes, no_run, NextRun, no_four, NextFour}
+use Rattle.generic_text.specs.Cursor.{Even, codes_from, start_at, NextCode, Passes, no_run, NextRun, NextFour}
 use Rattle.generic_text.proofs.Texts.{text_end, text_character, text_none, text_characters}
 
 module _ (bytes : List ℕ) (s : Cursor) where
@@ -68,9 +68,6 @@ module _ (bytes : List ℕ) (s : Cursor) where
 pub looked_up : (table : List ℕ) (code : ℕ) → table ≡ code_characters → get_or table code 0 ≡ character_of code
 unfolding character_of
 looked_up table code e = ap (λ (l : List ℕ). get_or l code 0) e
-
-pub no_characters : (bytes : List ℕ) (s rest : Cursor) → NextFour bytes s (no_four rest)
-no_characters bytes s rest = record { four = λ e. absurd (let z : ◌≡◌ {A = ℕ} 0 1 = cc in omega arith) }
 
 -- three bytes are four codes
 module _ (bytes : List ℕ) (s : Cursor) (none_left : s.width ≡ 0) (room : s.at ≤ length bytes - 3) (long : 4 ≤ length bytes) (small : (i : ℕ) → get_or bytes i 0 < 256) where

@@ -1,12 +1,12 @@
 -- Bytes copied into a list from a place on, and zeros behind them.
 -- Assumes nothing.
-use mathlib.Core.Path.{◌≡◌, refl, ◌∙◌}
-use mathlib.Core.List.{List, ◌++◌, append-nil, append_assoc}
+use mathlib.Core.Path.{◌≡◌, ◌∙◌}
+use mathlib.Core.List.{List, ◌++◌, append_assoc}
 use Prim.Native.Nat.{ℕ, ◌+◌, ◌-◌, ◌<◌, ◌≤◌}
 use native.Mathlib.Omega.{arith}
 use native.Mathlib.Numerals.{add-one}
-use lib.ListN.{length, get_or, take, set, replicate, length-set, drop_of_length-le}
-use lib.Seq.{paste, paste-zero, paste-suc, length-paste, take-paste, take_all}
+use lib.ListN.{length, get_or, take, set, replicate, length-set}
+use lib.Seq.{paste, paste-suc, length-paste, take-paste, take_all}
 
 module _ (p₀ w : List ℕ) (at : ℕ) where
   -- the first i of the bytes w stand from `at` on
@@ -16,9 +16,6 @@ module _ (p₀ w : List ℕ) (at : ℕ) where
     pub to : i ≤ length w
     pub fits : at + length w ≤ length p₀
 
-  pub none_copied : at + length w ≤ length p₀ → Copied p₀ 0
-  none_copied h = record { same = paste-zero p₀ at w; size = refl; to = omega arith; fits = h }
-
   pub one_copied : {p : List ℕ} {i : ℕ} → Copied p i → (b : ℕ) → b ≡ get_or w i 0 → i < length w → Copied (set p (at + i) b) (i + 1)
   one_copied {i = i} c b e h = record {
     same = rw (c.same, e, add-one) (paste-suc p₀ at w i 0 (omega (arith, c.fits)) h);
@@ -26,10 +23,6 @@ module _ (p₀ w : List ℕ) (at : ℕ) where
     to = omega arith;
     fits = c.fits;
   }
-
-  -- up to the list's end
-  pub to_the_end : at + length w ≡ length p₀ → paste p₀ at w (length w) ≡ take at p₀ ++ w
-  to_the_end h = rw (take_all (length w) w (omega arith), drop_of_length-le p₀ {i = at + length w} (omega arith), append-nil)
 
 -- zeros behind the bytes
 pub filled : (p w : List ℕ) (at : ℕ) → at + length w ≤ length p → {q r : List ℕ} → q ≡ paste p at w (length w) → r ≡ take (at + length w) q ++ replicate (length q - (at + length w)) 0

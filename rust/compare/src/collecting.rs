@@ -271,15 +271,6 @@ pub fn without_flags(random: &mut Xorshift, length: usize) -> Vec<u8> {
     bytes
 }
 
-/// Bytes of all streams that a test compares: so many, unless the environment
-/// variable GDL90_STREAM_BYTES says another number.
-pub fn stream_bytes(usual: usize) -> usize {
-    match std::env::var("GDL90_STREAM_BYTES") {
-        Ok(number) => number.parse().expect("GDL90_STREAM_BYTES is a number"),
-        Err(_) => usual,
-    }
-}
-
 /// The next piece of the bytes, at most as many as are left.
 pub fn next_piece<'a>(bytes: &'a [u8], random: &mut Xorshift) -> &'a [u8] {
     let bound = [4, 200][random.below(2)];

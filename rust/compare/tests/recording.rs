@@ -3,13 +3,13 @@
 
 use compare::collecting::{any_bytes, any_mixed, proved_answers, without_flags};
 use compare::lent::Lent;
-use compare::numbers::Tally;
+use compare::numbers::Counts;
 use gdl90::raw::{self, RecordingAnswer};
 use reference::collecting::{Kept, ROOM};
 use reference::framing::{ESCAPE, FLAG, MESSAGE_MAX, OUTPUT_TOO_SHORT};
 use reference::recording::{between_flags, framed, speed_recording, tiny, SHAPES};
 use reference::vectors::{HEARTBEAT, SALEM};
-use reference::whole::{self, Read};
+use reference::whole_recording::{self, Read};
 use reference::xorshift::Xorshift;
 
 /// Bytes of the mixed recordings; all others come on top.
@@ -54,7 +54,7 @@ fn told(recording: &[u8]) -> String {
 /// The reference's answer in the shape of the C function's.
 fn reference_read(recording: &[u8], memory: &mut Memory) -> RecordingAnswer {
     let (list, messages) = (memory.list.lend(), memory.messages.lend());
-    match whole::read(recording, list, messages) {
+    match whole_recording::read(recording, list, messages) {
         Read::Entries(entries) => RecordingAnswer { number: 0, entries },
         Read::Refused(number) => RecordingAnswer { number, entries: 0 },
     }
@@ -111,7 +111,7 @@ struct Seen {
     /// Bytes of all of them.
     bytes: usize,
     /// The entries' answers.
-    entries: Tally,
+    entries: Counts,
     /// How often all was enough, and how often the list, the room and both were too
     /// short.
     shortages: [[usize; 2]; 2],
@@ -122,7 +122,7 @@ impl Seen {
         Self {
             random: Xorshift::new(seed),
             bytes: 0,
-            entries: Tally::default(),
+            entries: Counts::default(),
             shortages: [[0; 2]; 2],
         }
     }

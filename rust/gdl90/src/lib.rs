@@ -3,9 +3,9 @@
 //!
 //! The work is done by `libgdl90.a`, which is proved to do what its contracts say
 //! for every input; this crate gives it types. It needs nothing but the standard
-//! library. Its build script makes the archive with `rt staticlib gdl90` where it
-//! is not there or older than its sources; GDL90_LIB_DIR names another folder that
-//! has it. The archive is for x86-64 Linux only.
+//! library. Its build script makes the archive with `rt lib` in crates/gdl90_c where
+//! it is not there or older than its sources; GDL90_LIB_DIR names another folder
+//! that has it. The archive is for x86-64 Linux only.
 //!
 //! ```
 //! use gdl90::Collector;

@@ -1,16 +1,10 @@
 -- `by_value_benchmark::by_value_answers` meets its contract. The loop's invariant: those counted and those that are left to be given are all.
 -- Assumes nothing.
-use native.Mathlib.Omega.{arith}
-use mathlib.Core.Path.{◌≡◌, ap, ◌∙◌}
-use mathlib.Core.Bool.{cond}
+use mathlib.Core.Path.{◌≡◌}
 use Prim.Native.Nat.{◌+◌, ◌≤◌, ◌-◌}
-use lib.ListN.{length, drop, get_or}
-use Rattle.collecting.specs.declared.Collector.{Collector}
-use Rattle.collecting.specs.declared.Collected.{Collected}
-use Rattle.collecting.specs.Step.{fresh, next, answer_to, stepped}
-use Rattle.collecting.specs.Stream.{is_answered}
+use lib.ListN.{length, drop}
+use Rattle.collecting.specs.Step.{fresh}
 use Rattle.by_value_benchmark.specs.Answers.{answer_count}
-use Rattle.by_value_benchmark.proofs.Counting.{at_most_one, one_less, none_left}
 use Rattle.by_value_benchmark.proofs.by_value_answers.Given as goal
 
 abbrev pub invariant-loop-i : goal.invariant-loop-i

@@ -1,12 +1,9 @@
--- `captures::begun` meets its contract. The loop's invariant: the bytes that are left lead to the number of all.
+-- The loop's invariant in `captures::begun`: the bytes that are left lead to the number of all.
 -- Assumes nothing.
-use mathlib.Core.Path.{◌≡◌, sym, ◌∙◌}
+use mathlib.Core.Path.{◌≡◌}
 use Prim.Native.Nat.{◌≤◌, ◌-◌}
-use native.Mathlib.Omega.{arith}
 use lib.ListN.{length, drop}
 use Rattle.captures.specs.Captures.{begun}
-use Rattle.captures.proofs.Telling.{full, next, none_left}
-use borrow.Author.Rules.{rules}
 use Rattle.captures.proofs.begun.Given as goal
 
 abbrev pub invariant-loop-i : goal.invariant-loop-i

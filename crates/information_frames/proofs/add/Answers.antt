@@ -3,16 +3,14 @@
 use mathlib.Core.Path.{sym, ◌∙◌}
 use native.Mathlib.Omega.{arith}
 use lib.ListN.{length}
-use borrow.Author.Tests.{not-true, not-false}
 use Rattle.information_frames.proofs.Rows.{counted_is, refused_is}
 use Rattle.information_frames.proofs.Putting.{good, add_refused, add_bad, add_full, add_done}
-use borrow.Author.Rules.{rules}
 use Rattle.information_frames.proofs.add.Goals as goal
 
 pub returns-then-not-is_good : goal.returns-then-not-is_good
 returns-then-not-is_good c =
     let l = counted_is _ c.in-Frames.is c.list.ensures in
-    add_bad _ _ _ _ _ l.list (sym c.is_good.ensures ∙ not-true _ c.if-not-is_good.true-raw)
+    add_bad _ _ _ _ _ l.list (sym c.is_good.ensures ∙ c.if-not-is_good.true)
 
 pub overflow_add-end : goal.overflow_add-end
 overflow_add-end c =
@@ -22,26 +20,24 @@ overflow_add-end c =
 pub overflow_add-end-in-Frames : goal.overflow_add-end-in-Frames
 overflow_add-end-in-Frames c =
     let l = counted_is _ c.in-Frames.is c.list.ensures in
-    let a = c.args in
-    let g = good a.kind (length a.bytes.now) (sym c.is_good.ensures ∙ not-false _ c.if-not-is_good.false-raw) in
+    let g = good c.args.kind (length c.args.bytes.now) (sym c.is_good.ensures ∙ c.if-not-is_good.false) in
     omega arith
 
 pub returns-then-end-n-gt424 : goal.returns-then-end-n-gt424
 returns-then-end-n-gt424 c =
     let l = counted_is _ c.in-Frames.is c.list.ensures in
-    add_full _ _ _ _ _ l.list (sym c.is_good.ensures ∙ not-false _ c.if-not-is_good.false-raw) (omega arith)
+    add_full _ _ _ _ _ l.list (sym c.is_good.ensures ∙ c.if-not-is_good.false) (omega arith)
 
 pub put-requires : goal.put-requires
 put-requires c =
     let l = counted_is _ c.in-Frames.is c.list.ensures in
-    let a = c.args in
-    let g = good a.kind (length a.bytes.now) (sym c.is_good.ensures ∙ not-false _ c.if-not-is_good.false-raw) in
+    let g = good c.args.kind (length c.args.bytes.now) (sym c.is_good.ensures ∙ c.if-not-is_good.false) in
     (l.size, omega arith, g.0)
 
 pub returns-else-end-n-gt424 : goal.returns-else-end-n-gt424
 returns-else-end-n-gt424 c =
     let l = counted_is _ c.in-Frames.is c.list.ensures in
-    add_done _ _ _ _ _ l.list (sym c.is_good.ensures ∙ not-false _ c.if-not-is_good.false-raw) (omega arith) _ c.put.ensures
+    add_done _ _ _ _ _ l.list (sym c.is_good.ensures ∙ c.if-not-is_good.false) (omega arith) _ c.put.ensures
 
 pub returns-in-Refused : goal.returns-in-Refused
 returns-in-Refused c = add_refused _ _ _ _ (refused_is _ c.in-Refused.is c.list.ensures)

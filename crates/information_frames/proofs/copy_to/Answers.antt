@@ -1,11 +1,8 @@
 -- `information_frames::copy_to` meets its contract.
 -- Assumes nothing.
-use mathlib.Core.Path.{◌≡◌, refl, ap, ◌∙◌}
-use Prim.Native.Nat.{◌-◌}
+use mathlib.Core.Path.{refl}
 use native.Mathlib.Omega.{arith}
-use lib.ListN.{length}
-use lib.Seq.{paste}
-use Rattle.information_frames.proofs.Copying.{Copied, none_copied, one_copied}
+use Rattle.information_frames.proofs.Copying.{one_copied}
 use Rattle.information_frames.proofs.copy_to.Goals as goal
 
 pub loop-i-preserved : goal.loop-i-preserved

@@ -1,11 +1,8 @@
--- `information_frames::copy_to` meets its contract.
+-- The loop's invariant in `information_frames::copy_to`: the first bytes are copied.
 -- Assumes nothing.
-use mathlib.Core.Path.{◌≡◌, refl, ap, ◌∙◌}
 use Prim.Native.Nat.{◌-◌}
-use native.Mathlib.Omega.{arith}
 use lib.ListN.{length}
-use lib.Seq.{paste}
-use Rattle.information_frames.proofs.Copying.{Copied, none_copied, one_copied}
+use Rattle.information_frames.proofs.Copying.{Copied}
 use Rattle.information_frames.proofs.copy_to.Given as goal
 
 abbrev pub invariant-loop-i : goal.invariant-loop-i

@@ -2,7 +2,6 @@
 -- Assumes nothing.
 use Rattle.information_frames.specs.Answers.{frame_list}
 use Rattle.information_frames.proofs.Answering.{count_is, refused_is}
-use borrow.Author.Rules.{rules}
 use Rattle.information_frames.proofs.list.Goals as goal
 
 pub returns-in-Listed : goal.returns-in-Listed

@@ -3,7 +3,6 @@
 use borrow.Author.Tests.{lt-ltb, le-ltb}
 use Rattle.information_frames.specs.Answers.{nth_frame}
 use Rattle.information_frames.proofs.Answering.{found_is, refused_is}
-use borrow.Author.Rules.{rules}
 use Rattle.information_frames.proofs.nth.Goals as goal
 
 pub returns-then-n-count : goal.returns-then-n-count

@@ -1,0 +1,16 @@
+-- `listing::pass` meets its contract.
+-- Assumes nothing.
+use native.Mathlib.Omega.{arith}
+use Rattle.collecting.proofs.Filling.{unflagged_most}
+use Rattle.listing.specs.Listing.{state}
+use Rattle.listing.proofs.Passing.{passed_is}
+use borrow.Author.Rules.{rules}
+use Rattle.listing.proofs.pass.Goals as goal
+
+pub passed-lister-requires : goal.passed-lister-requires
+passed-lister-requires c = omega (arith, unflagged_most c.args.bytes.now)
+
+pub returns : goal.returns
+returns c =
+    let f = c.fill-filled in
+    record { taken_value = f.ensures.0; room_after = passed_is (state c.args.l c.args.room.now) c.args.bytes.now _ _ _ _ c.requires.0.lead_few f.ensures.0 f.ensures.1 c.passed-lister.ensures }

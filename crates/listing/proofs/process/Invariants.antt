@@ -1,0 +1,15 @@
+-- `listing::process` meets its contract. The loop's invariant is `Running`, within the bytes up to the limit.
+-- Assumes nothing.
+use native.Mathlib.Omega.{arith}
+use Prim.Native.Nat.{◌+◌, ◌-◌, ◌≤◌}
+use lib.ListN.{length, drop, length-take}
+use Rattle.listing.specs.Listing.{state}
+use Rattle.listing.proofs.Steps.{Running, running_start, running_stop, running_more, taken_room}
+use Rattle.listing.proofs.Passing.{running_pass, running_taken, taken_stop}
+use Rattle.listing.proofs.process.Given as goal
+
+abbrev pub invariant-loop-out : goal.invariant-loop-out
+invariant-loop-out l = (l.i ≤ l.end) × Running (state l.initial.l l.initial.room) l.bytes l.initial.out l.out (state l.l l.room) l.i l.at
+
+abbrev pub decreases-loop-out : goal.decreases-loop-out
+decreases-loop-out l = length l.bytes - l.i

@@ -1,0 +1,42 @@
+-- `listing::put_reply` meets its contract, by the answer.
+-- Assumes nothing.
+use native.Mathlib.Omega.{arith}
+use mathlib.Core.Path.{refl, sym}
+use native.Mathlib.Nat.{add-zero}
+use Rattle.collecting.specs.Stream.{reply}
+use Rattle.listing.specs.Listing.{reply_line}
+use Rattle.listing.proofs.Rows.{ranged, position_most, accepted_line}
+use borrow.Author.Rules.{rules}
+use Rattle.listing.proofs.put_reply.Goals as goal
+
+pub read_number-requires : goal.read_number-requires
+read_number-requires c =
+    omega (arith, ranged _ _ c.in-Accepted.is c.requires.2)
+
+pub put_line-requires : goal.put_line-requires
+put_line-requires c =
+    let p = c.requires in
+    (p.0, p.1, (ranged _ _ c.in-Accepted.is p.2).1, omega arith, p.3)
+
+pub put_line-requires-in-Refused : goal.put_line-requires-in-Refused
+put_line-requires-in-Refused c =
+    let p = c.requires in
+    (p.0, p.1, omega arith, position_most _ _ _ c.in-Refused.is p.2, p.3)
+
+pub returns-in-None : goal.returns-in-None
+unfolding reply reply_line
+returns-in-None c = record { stored = rw c.in-None.is (record { ends = sym (add-zero _); leaves = refl }); upper_bound = omega arith }
+
+pub returns-in-Accepted : goal.returns-in-Accepted
+returns-in-Accepted c =
+    let g = c.put_line in
+    let n = c.read_number in
+    let k = ranged _ _ c.in-Accepted.is c.requires.2 in
+    let line = accepted_line c.args.l c.args.answer c.args.message.now c.in-Accepted.k c.in-Accepted.is k.0 (omega arith) in
+    record { stored = rw (← line, ← n.ensures) g.ensures.0; upper_bound = g.ensures.1 }
+
+pub returns-in-Refused : goal.returns-in-Refused
+unfolding reply reply_line
+returns-in-Refused c =
+    let g = c.put_line-in-Refused in
+    record { stored = rw c.in-Refused.is g.ensures.0; upper_bound = g.ensures.1 }
