@@ -13,7 +13,7 @@ put_decimal-end-requires c = omega (arith, decimal-length 9 c.args.n (omega arit
 pub bounds-out-end : goal.bounds-out-end
 bounds-out-end c =
     let g = c.put_decimal-end in
-    omega (arith, decimal-length 9 c.args.n (omega arith), g.ensures.ends, g.auto.0)
+    omega (arith, decimal-length 9 c.args.n (omega arith), g.ensures.ends, g.auto.out)
 
 pub overflow_add-result : goal.overflow_add-result
 overflow_add-result c =

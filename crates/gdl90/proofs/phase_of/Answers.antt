@@ -1,0 +1,25 @@
+-- `gdl90::phase_of` meets its contract, by the number.
+-- Assumes nothing.
+use borrow.Author.Tests.{eq-eqb, ne_eqb}
+use Rattle.gdl90.specs.Collecting.{phase_of}
+use Rattle.gdl90.proofs.phase_of.Goals as goal
+
+pub returns-then-n-eq0 : goal.returns-then-n-eq0
+unfolding phase_of
+returns-then-n-eq0 c = simp (eq-eqb _ 0 c.if-n-eq0.true)
+
+pub returns-then-n-eq1 : goal.returns-then-n-eq1
+unfolding phase_of
+returns-then-n-eq1 c = simp (ne_eqb _ 0 c.if-n-eq0.false, eq-eqb _ 1 c.if-n-eq1.true)
+
+pub returns-then-n-eq2 : goal.returns-then-n-eq2
+unfolding phase_of
+returns-then-n-eq2 c = simp (ne_eqb _ 0 c.if-n-eq0.false, ne_eqb _ 1 c.if-n-eq1.false, eq-eqb _ 2 c.if-n-eq2.true)
+
+pub returns-then-n-eq3 : goal.returns-then-n-eq3
+unfolding phase_of
+returns-then-n-eq3 c = simp (ne_eqb _ 0 c.if-n-eq0.false, ne_eqb _ 1 c.if-n-eq1.false, ne_eqb _ 2 c.if-n-eq2.false, eq-eqb _ 3 c.if-n-eq3.true)
+
+pub returns : goal.returns
+unfolding phase_of
+returns c = simp (ne_eqb _ 0 c.if-n-eq0.false, ne_eqb _ 1 c.if-n-eq1.false, ne_eqb _ 2 c.if-n-eq2.false, ne_eqb _ 3 c.if-n-eq3.false)

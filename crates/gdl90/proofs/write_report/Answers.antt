@@ -1,0 +1,16 @@
+-- `gdl90::write_report` meets its contract.
+-- Assumes nothing.
+use borrow.Author.Tests.{le-leb, lt-leb}
+use Rattle.numbers.specs.Lent.{written}
+use Rattle.codec.specs.Writing.{writing}
+use Rattle.message_types.specs.declared.Report.{Report}
+use mathlib.Core.Bool.{◌&&◌}
+use Rattle.report.specs.Bytes.{report_bytes}
+use Rattle.report.specs.Reading.{good_report, is_report_id}
+use Rattle.gdl90.proofs.Answering.{wrote}
+use borrow.Author.Rules.{rules}
+use Rattle.gdl90.proofs.write_report.Goals as goal
+
+pub returns : goal.returns
+unfolding writing written
+returns c = record { answers = simp (lt-leb _ 3 c.if-flat-le-LAST_TRACK_KIND.false); leaves = simp (lt-leb _ 3 c.if-flat-le-LAST_TRACK_KIND.false) }
