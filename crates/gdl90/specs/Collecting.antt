@@ -68,6 +68,6 @@ abbrev pub recording_answer : Recorded → RecordingAnswer
 recording_answer r = record { number = recorded_number r; entries = recorded_entries r }
 
 -- what C has of reading a recording: the answer, and what the list and the memory for messages hold then
-pub record ReadsRecording (bs list messages : List ℕ) (answer : RecordingAnswer) (List-left messages-left : List ℕ) : Type 0 where
+pub record ReadsRecording (bs list messages : List ℕ) (answer : RecordingAnswer) (list_left messages_left : List ℕ) : Type 0 where
   pub answers : answer ≡ recording_answer (recorded bs (length list) (length messages))
-  pub leaves : ReadRecording bs list messages (recorded bs (length list) (length messages)) List-left messages-left
+  pub leaves : ReadRecording bs list messages (recorded bs (length list) (length messages)) list_left messages_left

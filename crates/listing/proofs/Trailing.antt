@@ -1,4 +1,4 @@
--- The last line has the lead_in and the trail of the input; and whether there was a flag.
+-- The last line has the lead-in and the trail of the input; and whether there was a flag.
 -- Assumes nothing.
 use mathlib.Core.Path.{◌≡◌, refl, ◌∙◌}
 use mathlib.Core.Bool.{Bool, true, false}

@@ -22,7 +22,7 @@ Joined = (bs text : List ℕ) (s : State) → Calls start bs text s → header +
 abbrev pub Moves : Type 0
 Moves = (s : State) (b : ℕ) (bs : List ℕ) (room : ℕ) → s.lister.taken < limit → longest ≤ room → 1 ≤ taken_of s (b ∷ bs) room
 
--- the last line has the lead_in bytes and the bytes after the last flag
+-- the last line has the lead-in bytes and the bytes after the last flag
 abbrev pub BothEnds : Type 0
 BothEnds = (bs : List ℕ) → ending (reached start bs).lister ≡ last_line (unflagged bs) (trail bs)
 

@@ -17,7 +17,7 @@ cut (b ∷ bs) = cond (eqb b flag) ([] ∷ cut bs) (onto b (cut bs))
 abbrev pub closed_parts : List (List ℕ) → List (List ℕ)
 closed_parts ps = take (length ps - 1) ps
 
--- and not the first, the lead_in
+-- and not the first, the lead-in
 unfoldable pub between_flags : List (List ℕ) → List (List ℕ)
 between_flags ps = drop 1 (closed_parts ps)
 
