@@ -21,7 +21,7 @@ cited() { grep -qxF -- "$1" <<< "$headings" || wrong "$2 cites '$1', which is no
 
 files=(README.md crates docs examples gdl90-list include rust samples tests .ci)
 # found EXPRESSION [FOLDER...]: where it stands, with the text
-found() { grep -rnoIE --exclude-dir=target --exclude=citations.sh "$1" "${@:2}"; }
+found() { grep -rnoIE --exclude-dir=target --exclude-dir=out --exclude=citations.sh "$1" "${@:2}"; }
 
 # A citation goes neither over the end of a line nor on in another way.
 citation="RULES '[^']+'((,| and) '[^']+')*"

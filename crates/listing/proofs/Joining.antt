@@ -1,6 +1,6 @@
 -- The listing of a whole input from its stretches.
 -- Assumes nothing.
-use mathlib.Core.Path.{◌≡◌, refl, ap, ◌∙◌}
+use mathlib.Core.Path.{◌≡◌, refl, ap, ◌∙◌, subst}
 use mathlib.Core.Bool.{Bool, true, false, cond}
 use mathlib.Core.List.{List, [], ◌∷◌, ◌++◌}
 use Prim.Native.Nat.{ℕ, suc, ◌+◌, ◌-◌, ◌≤◌}
@@ -79,7 +79,7 @@ ends_call s s' bs left room rest r p q =
     let e = limited s bs r.taken p.within p.few in
     let u : State = reached s (take r.taken bs) in
     let v : List ℕ = take (limit - u.lister.taken) (drop r.taken bs) in
-    let q' : (rest ≡ texts u v) × (s' ≡ reached u v) = rw p.state at q in (
+    let q' : (rest ≡ texts u v) × (s' ≡ reached u v) = subst (λ (z : State). (rest ≡ texts z (take (limit - z.lister.taken) (drop r.taken bs))) × (s' ≡ reached z (take (limit - z.lister.taken) (drop r.taken bs)))) p.state q in (
       rw (e, texts-append s (take r.taken bs) v) (cc (p.text, q'.0)),
       rw (e, reached-append s (take r.taken bs) v) q'.1,
     )

@@ -11,10 +11,10 @@ use lib.Seq.{take-take, take_all, take_at, get_or-take, length-take-le}
 use borrow.Author.Tests.{eq-eqb, ne_eqb, lt-ltb, le-ltb, ltb-false}
 use Rattle.numbers.specs.Lent.{written}
 use Rattle.fcs.specs.Fcs.{fcs}
-use Rattle.framing.specs.Stuffing.{unstuffed, unstuff}
+use Rattle.framing.specs.Stuffing.{unstuff}
 use Rattle.collecting.specs.declared.Answer.TheVariants.{None, Accepted, Refused}
 use Rattle.collecting.specs.Stream.{nothing, message, refused, reply, unflagged}
-use Rattle.collecting.specs.Between.{whole, verdict, reply_between}
+use Rattle.collecting.specs.Between.{whole, reply_between}
 use Rattle.recording.proofs.Judging.{verdict_judged}
 use Rattle.recording.specs.declared.UnstuffedPart.{UnstuffedPart}
 use Rattle.recording.specs.Steps.{part_bytes, unstuffed_part, checked_part, IsReply, reply_to_part, stuffed_taken, judged}

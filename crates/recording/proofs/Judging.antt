@@ -7,7 +7,7 @@ use lib.Dec.{eqb, ltb}
 use borrow.Author.Tests.{eqb-true}
 use lib.ListN.{length, take}
 use Rattle.framing.specs.Stuffing.{stuff, Unstuffed}
-use Rattle.collecting.specs.Stream.{Reply, refused}
+use Rattle.collecting.specs.Stream.{refused}
 use Rattle.collecting.specs.Between.{whole, verdict}
 use Rattle.recording.specs.Steps.{first_fault, stuffed_taken, judged}
 

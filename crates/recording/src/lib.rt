@@ -1,7 +1,7 @@
 // A recording read as a whole (001 §2.2.1; RULES 'Recordings'), for who reads here first: collecting gives the same answers, to
 // bytes that come one by one. `part_end` cuts at a flag, `unstuff` and `check` follow, `answer_part` takes the three for one
-// part, and `measure` and `write` go over all parts. In a contract `now x.entry` is what x holds at the call, and
-// `now x.exit` what it holds at the return.
+// part, and `measure` and `write` go over all parts. In a contract `x.old` is what x holds at the call, `x.new` what it holds at the
+// return, and `x.now` what is only read.
 #![tactic(auto)]
 
 ghost use Rattle.std.specs.Prelude.{◌≡◌, false, ◌+◌, ◌≤◌, ◌<◌, length, drop};

@@ -1,15 +1,12 @@
 -- `altitudes::field` meets its contract.
 -- Assumes nothing.
-use mathlib.Core.Path.{◌≡◌, sym, ap, ◌∙◌, subst}
-use Prim.Native.Nat.{◌-◌, ◌≤◌}
-use native.Mathlib.Omega.{arith}
-use lib.IntN.{ℤ, nat_abs, pos, negsuc}
-use lib.Signed.{mag}
+use mathlib.Core.Path.{sym, ap, ◌∙◌}
+use Prim.Native.Nat.{◌-◌}
+use lib.IntN.{ℤ, nat_abs}
 use mir.Syntax.{w16}
-use mir.Val.{to_z, of_z}
 use mir.Facts.{to_z-of_z}
 use Rattle.numbers.specs.Signed.{field_of}
-use Rattle.numbers.proofs.Signed.{negative, natural, flipped, asks}
+use Rattle.numbers.proofs.Signed.{negative, natural, flipped}
 use Rattle.altitudes.proofs.field.Goals as goal
 
 pub returns-then-n-lt0 : goal.returns-then-n-lt0

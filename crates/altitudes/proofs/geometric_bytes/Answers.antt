@@ -1,12 +1,10 @@
 -- `altitudes::geometric_bytes` meets its contract.
 -- Assumes nothing.
 use mathlib.Core.Path.{ap, ◌∙◌}
-use native.Mathlib.Omega.{arith}
 use mir.Syntax.{w16}
 use Rattle.numbers.specs.Signed.{field_of}
 use Rattle.numbers.proofs.Signed.{back}
 use Rattle.altitudes.specs.Geometric.{geometric_bytes}
-use borrow.Author.Rules.{rules}
 use Rattle.altitudes.proofs.geometric_bytes.Goals as goal
 
 pub returns : goal.returns

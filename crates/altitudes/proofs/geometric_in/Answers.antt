@@ -5,7 +5,6 @@ use mir.Syntax.{w16}
 use Rattle.numbers.specs.Signed.{signed_in}
 use Rattle.numbers.proofs.Signed.{back}
 use Rattle.altitudes.specs.Geometric.{merit_of, geometric_in}
-use borrow.Author.Rules.{rules}
 use Rattle.altitudes.proofs.geometric_in.Goals as goal
 
 pub returns : goal.returns

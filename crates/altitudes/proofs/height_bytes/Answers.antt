@@ -1,7 +1,6 @@
 -- `altitudes::height_bytes` meets its contract.
 -- Assumes nothing.
 use Rattle.altitudes.specs.Height.{terrain_bytes}
-use borrow.Author.Rules.{rules}
 use Rattle.altitudes.proofs.height_bytes.Goals as goal
 
 pub returns : goal.returns

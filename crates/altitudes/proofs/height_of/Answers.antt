@@ -8,7 +8,6 @@ use Rattle.numbers.proofs.Signed.{back}
 use Rattle.message_types.specs.declared.Height.{Height}
 use Rattle.message_types.specs.declared.Height.TheVariants.{Feet}
 use Rattle.altitudes.specs.Height.{height_of}
-use borrow.Author.Rules.{rules}
 use Rattle.altitudes.proofs.height_of.Goals as goal
 
 pub returns-then-n-eq32768 : goal.returns-then-n-eq32768

@@ -3,7 +3,6 @@
 use native.Mathlib.Omega.{arith}
 use mir.Syntax.{w16}
 use Rattle.numbers.proofs.Signed.{low, high}
-use borrow.Author.Rules.{rules}
 use Rattle.altitudes.proofs.signed.Goals as goal
 
 pub returns-then-n-lt32768 : goal.returns-then-n-lt32768

@@ -4,7 +4,6 @@ use mathlib.Core.Path.{ap, ◌∙◌}
 use Rattle.message_types.specs.declared.Height.{Height}
 use Rattle.message_types.specs.declared.HeightAboveTerrain.{HeightAboveTerrain}
 use Rattle.altitudes.specs.Height.{height_of, terrain_in}
-use borrow.Author.Rules.{rules}
 use Rattle.altitudes.proofs.terrain_in.Goals as goal
 
 pub returns : goal.returns

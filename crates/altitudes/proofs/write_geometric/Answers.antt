@@ -1,9 +1,7 @@
 -- `altitudes::write_geometric` meets its contract.
 -- Assumes nothing.
 use mathlib.Core.Path.{sym, ◌∙◌}
-use Rattle.altitudes.proofs.Back.{merit_lt}
-use Rattle.codec.proofs.Outcomes.{wrote, refused}
-use borrow.Author.Rules.{rules}
+use Rattle.codec.proofs.Outcomes.{refused}
 use Rattle.altitudes.proofs.write_geometric.Goals as goal
 
 pub returns : goal.returns

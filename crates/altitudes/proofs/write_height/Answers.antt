@@ -1,8 +1,7 @@
 -- `altitudes::write_height` meets its contract.
 -- Assumes nothing.
 use mathlib.Core.Path.{sym, ◌∙◌}
-use Rattle.codec.proofs.Outcomes.{wrote, refused}
-use borrow.Author.Rules.{rules}
+use Rattle.codec.proofs.Outcomes.{refused}
 use Rattle.altitudes.proofs.write_height.Goals as goal
 
 pub returns : goal.returns

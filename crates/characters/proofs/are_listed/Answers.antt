@@ -1,11 +1,7 @@
 -- `characters::are_listed` meets its contract. The loop's invariant: what was seen and what is left decide.
 -- Assumes nothing.
-use mathlib.Core.Path.{◌≡◌, refl, ◌∙◌}
-use mathlib.Core.Bool.{◌&&◌}
-use Prim.Native.Nat.{◌≤◌, ◌-◌}
+use mathlib.Core.Path.{◌∙◌}
 use native.Mathlib.Omega.{arith}
-use lib.ListN.{length, drop}
-use Rattle.characters.specs.Characters.{are_listed}
 use Rattle.characters.proofs.Listed.{listed_next, listed_all}
 use Rattle.characters.proofs.are_listed.Goals as goal
 

@@ -1,6 +1,5 @@
 -- `codec::misfit` meets its contract, by the tests in their order.
 -- Assumes nothing.
-use borrow.Author.Rules.{rules}
 use borrow.Author.Tests.{eq-eqb, ne_eqb}
 use Rattle.codec.specs.Reading.{misfit}
 use Rattle.codec.proofs.misfit.Goals as goal

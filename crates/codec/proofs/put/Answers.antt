@@ -1,11 +1,7 @@
 -- `codec::put` meets its contract. The loop's invariant: storing the bytes that are left ends it.
 -- Assumes nothing.
 use native.Mathlib.Omega.{arith}
-use mathlib.Core.Path.{◌≡◌, refl, ◌∙◌}
-use Prim.Native.Nat.{◌≤◌, ◌-◌}
-use lib.ListN.{length, drop, length-set}
-use lib.Seq.{sets}
-use Rattle.codec.proofs.Outcomes.{no_room, stored, all_stored}
+use Rattle.codec.proofs.Outcomes.{no_room, all_stored}
 use Rattle.codec.proofs.put.Goals as goal
 
 pub returns-then-out-bytes : goal.returns-then-out-bytes

@@ -1,11 +1,9 @@
 -- `codec::put` meets its contract. The loop's invariant: storing the bytes that are left ends it.
 -- Assumes nothing.
-use native.Mathlib.Omega.{arith}
-use mathlib.Core.Path.{◌≡◌, refl, ◌∙◌}
+use mathlib.Core.Path.{◌≡◌}
 use Prim.Native.Nat.{◌≤◌, ◌-◌}
-use lib.ListN.{length, drop, length-set}
+use lib.ListN.{length, drop}
 use lib.Seq.{sets}
-use Rattle.codec.proofs.Outcomes.{no_room, stored, all_stored}
 use Rattle.codec.proofs.put.Given as goal
 
 abbrev pub invariant-loop-i : goal.invariant-loop-i

@@ -3,7 +3,6 @@
 use mathlib.Core.Path.{◌∙◌}
 use Rattle.numbers.specs.Bits.{◌⊕◌}
 use Rattle.collecting.proofs.Cases.{unescaped_good, unescaped_bad}
-use borrow.Author.Rules.{rules}
 use Rattle.collecting.proofs.after_escape.Goals as goal
 
 pub returns-then-byte : goal.returns-then-byte

@@ -1,12 +1,7 @@
 -- `collecting::before_flag` meets its contract. The loop's invariant: the bytes passed stand before the first flag.
 -- Assumes nothing.
 use native.Mathlib.Omega.{arith}
-use mathlib.Core.Path.{◌≡◌}
-use Prim.Native.Nat.{◌+◌, ◌-◌}
-use lib.ListN.{length, drop}
-use Rattle.collecting.specs.Stream.{unflagged}
 use Rattle.collecting.proofs.Filling.{unflagged_end, unflagged_flag, unflagged_more}
-use borrow.Author.Rules.{rules}
 use Rattle.collecting.proofs.before_flag.Goals as goal
 
 pub returns-then-bytes-i-eq126 : goal.returns-then-bytes-i-eq126

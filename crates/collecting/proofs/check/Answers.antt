@@ -3,7 +3,6 @@
 use mathlib.Core.Path.{refl}
 use Rattle.collecting.specs.Step.{shown}
 use Rattle.collecting.proofs.Cases.{agrees, differs}
-use borrow.Author.Rules.{rules}
 use Rattle.collecting.proofs.check.Goals as goal
 
 pub returns-then-sequence_of-sent : goal.returns-then-sequence_of-sent

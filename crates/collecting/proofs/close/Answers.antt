@@ -4,7 +4,6 @@ use mathlib.Core.Path.{refl, ◌∙◌}
 use Rattle.collecting.specs.declared.Phase.TheVariants.{LeadIn, Escape, BadEscape, TooLong}
 use Rattle.collecting.specs.Step.{closed, shown}
 use Rattle.collecting.proofs.Cases.{closed_at, closed_empty, closed_short, closed_long}
-use borrow.Author.Rules.{rules}
 use Rattle.collecting.proofs.close.Goals as goal
 
 pub returns-then-n-eq0 : goal.returns-then-n-eq0

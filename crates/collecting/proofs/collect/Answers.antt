@@ -2,7 +2,6 @@
 -- Assumes nothing.
 use mathlib.Core.Path.{◌∙◌}
 use Rattle.collecting.proofs.Cases.{collected_room, collected_full}
-use borrow.Author.Rules.{rules}
 use Rattle.collecting.proofs.collect.Goals as goal
 
 pub returns-then-n-lt438 : goal.returns-then-n-lt438

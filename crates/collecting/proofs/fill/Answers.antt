@@ -1,12 +1,7 @@
 -- `collecting::fill` meets its contract. The loop's invariant: the bytes passed are taken.
 -- Assumes nothing.
 use native.Mathlib.Omega.{arith}
-use Prim.Native.Nat.{◌-◌}
-use lib.ListN.{length}
-use Rattle.collecting.specs.Step.{held}
-use Rattle.collecting.specs.Stretch.{Passed}
 use Rattle.collecting.proofs.Filling.{unflagged_end, unflagged_flag, unflagged_more, unflagged_most, passed_none, rest, passed_part, passed_all}
-use borrow.Author.Rules.{rules}
 use Rattle.collecting.proofs.fill.Goals as goal
 
 pub returns-then-bytes-n-eq126 : goal.returns-then-bytes-n-eq126

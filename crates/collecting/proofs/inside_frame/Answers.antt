@@ -1,10 +1,8 @@
 -- `collecting::inside_frame` meets its contract, by the phase and the byte.
 -- Assumes nothing.
 use mathlib.Core.Path.{sym, ◌∙◌}
-use Rattle.collecting.specs.declared.Collector.{Collector}
 use Rattle.collecting.specs.Step.{held}
 use Rattle.collecting.proofs.Cases.{open_escape, open_other, escape_any, stays}
-use borrow.Author.Rules.{rules}
 use Rattle.collecting.proofs.inside_frame.Goals as goal
 
 pub returns-then-byte-eq125 : goal.returns-then-byte-eq125

@@ -1,12 +1,7 @@
 -- `collecting::plain` meets its contract. The loop's invariant: so many are stored.
 -- Assumes nothing.
 use native.Mathlib.Omega.{arith}
-use Prim.Native.Nat.{◌+◌, ◌-◌, ◌≤◌}
-use Rattle.collecting.specs.declared.Phase.TheVariants.{Open}
-use Rattle.collecting.specs.Step.{state_in}
-use Rattle.collecting.specs.Stretch.{Passed}
 use Rattle.collecting.proofs.Filling.{plain_none, plain_one}
-use borrow.Author.Rules.{rules}
 use Rattle.collecting.proofs.plain.Goals as goal
 
 pub loop-i-init : goal.loop-i-init

@@ -2,7 +2,6 @@
 -- Assumes nothing.
 use mathlib.Core.Path.{◌∙◌}
 use Rattle.collecting.proofs.Cases.{fresh_flag, fresh_other}
-use borrow.Author.Rules.{rules}
 use Rattle.collecting.proofs.restarted.Goals as goal
 
 pub returns-then-first-eq126 : goal.returns-then-first-eq126

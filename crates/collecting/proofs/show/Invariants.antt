@@ -1,12 +1,9 @@
 -- `collecting::show` meets its contract. The loop's invariant: the bytes passed are shown, with zeros behind them.
 -- Assumes nothing.
-use native.Mathlib.Omega.{arith}
-use mathlib.Core.Path.{◌≡◌, refl}
+use mathlib.Core.Path.{◌≡◌}
 use Prim.Native.Nat.{◌≤◌, ◌-◌}
 use mathlib.Core.List.{◌++◌}
 use lib.ListN.{take, replicate}
-use Rattle.collecting.proofs.Cases.{showing}
-use borrow.Author.Rules.{rules}
 use Rattle.collecting.proofs.show.Given as goal
 
 abbrev pub invariant-loop-i : goal.invariant-loop-i

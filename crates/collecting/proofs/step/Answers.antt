@@ -3,7 +3,6 @@
 use mathlib.Core.Path.{sym, ◌∙◌}
 use Rattle.collecting.specs.Step.{held}
 use Rattle.collecting.proofs.Cases.{within_of, step_over, step_flag, step_inside}
-use borrow.Author.Rules.{rules}
 use Rattle.collecting.proofs.step.Goals as goal
 
 pub returns-then-is_over : goal.returns-then-is_over

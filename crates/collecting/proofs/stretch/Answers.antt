@@ -1,15 +1,11 @@
 -- `collecting::stretch` meets its contract, by the phase.
 -- Assumes nothing.
-use mathlib.Core.Path.{sym, ap, subst}
-use Prim.Native.Nat.{ℕ, ◌+◌}
-use Rattle.collecting.specs.declared.Phase.{Phase}
-use Rattle.collecting.specs.declared.Phase.TheVariants.{Open}
-use Rattle.collecting.specs.declared.Collector.{Collector}
-use Rattle.collecting.specs.Step.{held, state_in}
+use mathlib.Core.Path.{sym, subst}
+use Prim.Native.Nat.{ℕ}
+use Rattle.collecting.specs.Step.{held}
 use Rattle.collecting.specs.Stretch.{Passed}
 use Rattle.collecting.proofs.Cases.{stays}
 use Rattle.collecting.proofs.Filling.{passed_none, passed_stuck}
-use borrow.Author.Rules.{rules}
 use Rattle.collecting.proofs.stretch.Goals as goal
 
 pub returns-in-Escape : goal.returns-in-Escape

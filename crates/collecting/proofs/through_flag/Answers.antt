@@ -2,7 +2,6 @@
 -- Assumes nothing.
 use native.Mathlib.Omega.{arith}
 use Rattle.collecting.proofs.Feeding.{leads_filled, leads_one}
-use borrow.Author.Rules.{rules}
 use Rattle.collecting.proofs.through_flag.Goals as goal
 
 pub returns-then-n-bytes : goal.returns-then-n-bytes

@@ -6,7 +6,6 @@ use Rattle.collecting.specs.declared.Collector.{Collector}
 use Rattle.collecting.specs.Stretch.{Within}
 use Rattle.collecting.proofs.Ranging.{taken_most}
 use Rattle.collecting.proofs.Filling.{unflagged_end, unflagged_flag, passed_one, passed_all, passed_taken}
-use borrow.Author.Rules.{rules}
 use Rattle.collecting.proofs.through_stretch.Goals as goal
 
 pub stretch-s-requires : goal.stretch-s-requires

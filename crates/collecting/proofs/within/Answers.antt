@@ -3,7 +3,6 @@
 use mathlib.Core.Path.{sym, ◌∙◌}
 use Rattle.collecting.specs.Step.{held}
 use Rattle.collecting.proofs.Cases.{within_of, taken_over, taken_within}
-use borrow.Author.Rules.{rules}
 use Rattle.collecting.proofs.within.Goals as goal
 
 pub returns-then-is_over : goal.returns-then-is_over

@@ -2,11 +2,11 @@
 -- Assumes nothing.
 use native.Mathlib.Omega.{arith}
 use borrow.Author.Rules.{rules}
-use mathlib.Core.Path.{◌≡◌, sym, ap, ◌∙◌}
+use mathlib.Core.Path.{sym, ap, ◌∙◌}
 use mathlib.Core.List.{foldl}
-use Prim.Native.Nat.{ℕ, ◌+◌, ◌≤◌, ◌<◌, ◌-◌, ◌%◌}
+use Prim.Native.Nat.{ℕ, ◌+◌, ◌%◌}
 use lib.ListN.{length, drop}
-use Rattle.fcs.specs.Fcs.{step, bits, fcs}
+use Rattle.fcs.specs.Fcs.{step, bits}
 use Rattle.fcs.proofs.Words.{two_bytes}
 use Rattle.fcs.proofs.Pairwise.{front, turn, done}
 use Rattle.fcs.proofs.check_sequence.Goals as goal

@@ -1,14 +1,10 @@
 -- `fcs::check_sequence` meets its contract. The loop's invariant: dividing on from here, over the bytes that are left, gives the sequence.
 -- Assumes nothing.
-use native.Mathlib.Omega.{arith}
-use borrow.Author.Rules.{rules}
-use mathlib.Core.Path.{◌≡◌, sym, ap, ◌∙◌}
+use mathlib.Core.Path.{◌≡◌}
 use mathlib.Core.List.{foldl}
-use Prim.Native.Nat.{ℕ, ◌+◌, ◌≤◌, ◌<◌, ◌-◌, ◌%◌}
+use Prim.Native.Nat.{◌≤◌, ◌<◌, ◌-◌, ◌%◌}
 use lib.ListN.{length, drop}
 use Rattle.fcs.specs.Fcs.{step, bits, fcs}
-use Rattle.fcs.proofs.Words.{two_bytes}
-use Rattle.fcs.proofs.Pairwise.{front, turn, done}
 use Rattle.fcs.proofs.check_sequence.Given as goal
 
 abbrev pub invariant-loop-i : goal.invariant-loop-i

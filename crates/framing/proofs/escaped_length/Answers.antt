@@ -2,7 +2,6 @@
 -- Assumes nothing.
 use mathlib.Core.Path.{sym, ap, ◌∙◌}
 use lib.ListN.{length}
-use borrow.Author.Rules.{rules}
 use Rattle.framing.proofs.Escaping.{escaped, plain}
 use Rattle.framing.proofs.escaped_length.Goals as goal
 

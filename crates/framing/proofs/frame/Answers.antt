@@ -5,7 +5,6 @@ use mathlib.Core.Path.{refl}
 use Rattle.numbers.specs.Lent.{written}
 use Rattle.framing.proofs.Escaping.{its_frame, its_size}
 use Rattle.framing.proofs.Answering.{empty, long, no_room, done}
-use borrow.Author.Rules.{rules}
 use Rattle.framing.proofs.frame.Goals as goal
 
 pub returns-then-message-lt1 : goal.returns-then-message-lt1

@@ -1,7 +1,6 @@
 -- `framing::frame_length` meets its contract: of 436 bytes at most, the sum is small.
 -- Assumes nothing.
 use native.Mathlib.Omega.{arith}
-use borrow.Author.Rules.{rules}
 use Rattle.framing.proofs.Escaping.{escape_size, stuff_size}
 use Rattle.framing.proofs.frame_length.Goals as goal
 

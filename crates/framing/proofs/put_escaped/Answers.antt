@@ -1,13 +1,10 @@
 -- `framing::put_escaped` meets its contract: one byte, or two, one behind the other.
 -- Assumes nothing.
 use native.Mathlib.Omega.{arith}
-use mathlib.Core.Path.{◌≡◌, sym, ap, ◌∙◌}
-use mathlib.Core.List.{[], ◌∷◌}
+use mathlib.Core.Path.{sym, ap, ◌∙◌}
 use lib.ListN.{length}
-use borrow.Author.Rules.{rules}
 use Rattle.numbers.specs.Bits.{◌⊕◌}
 use Rattle.numbers.proofs.Storing.{then}
-use Rattle.framing.specs.Stuffing.{escape}
 use Rattle.framing.proofs.Escaping.{escaped, plain}
 use Rattle.framing.proofs.put_escaped.Goals as goal
 

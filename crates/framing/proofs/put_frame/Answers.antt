@@ -1,7 +1,5 @@
 -- `framing::put_frame` meets its contract: five parts, one behind the other.
 -- Assumes nothing.
-use native.Mathlib.Omega.{arith}
-use borrow.Author.Rules.{rules}
 use Rattle.numbers.proofs.Storing.{then}
 use Rattle.framing.proofs.Escaping.{in_turn}
 use Rattle.framing.proofs.put_frame.Goals as goal

@@ -1,10 +1,10 @@
 -- `framing::put_stuffed` meets its contract. The loop's invariant: what is left is to store the bytes that are left, stuffed.
 -- Assumes nothing.
 use native.Mathlib.Omega.{arith}
-use mathlib.Core.Path.{◌≡◌, refl, ap}
-use Prim.Native.Nat.{◌+◌, ◌≤◌, ◌-◌}
+use mathlib.Core.Path.{ap}
+use Prim.Native.Nat.{◌+◌}
 use lib.ListN.{length, drop, get_or, length-append}
-use Rattle.numbers.proofs.Storing.{Rest, rest_more, rest_none, rest_size}
+use Rattle.numbers.proofs.Storing.{rest_more, rest_none, rest_size}
 use Rattle.framing.specs.Stuffing.{escape, stuff}
 use Rattle.framing.proofs.Escaping.{one_less, none_left}
 use Rattle.framing.proofs.put_stuffed.Goals as goal

@@ -1,12 +1,10 @@
 -- `framing::put_stuffed` meets its contract. The loop's invariant: what is left is to store the bytes that are left, stuffed.
 -- Assumes nothing.
-use native.Mathlib.Omega.{arith}
-use mathlib.Core.Path.{◌≡◌, refl, ap}
-use Prim.Native.Nat.{◌+◌, ◌≤◌, ◌-◌}
-use lib.ListN.{length, drop, get_or, length-append}
-use Rattle.numbers.proofs.Storing.{Rest, rest_more, rest_none, rest_size}
-use Rattle.framing.specs.Stuffing.{escape, stuff}
-use Rattle.framing.proofs.Escaping.{one_less, none_left}
+use mathlib.Core.Path.{◌≡◌}
+use Prim.Native.Nat.{◌≤◌, ◌-◌}
+use lib.ListN.{length, drop}
+use Rattle.numbers.proofs.Storing.{Rest}
+use Rattle.framing.specs.Stuffing.{stuff}
 use Rattle.framing.proofs.put_stuffed.Given as goal
 
 abbrev pub invariant-loop-i : goal.invariant-loop-i

@@ -1,11 +1,9 @@
 -- `framing::stuffed_length` meets its contract. The loop's invariant: the count, with what the bytes that are left make, is the whole.
 -- Assumes nothing.
-use native.Mathlib.Omega.{arith}
-use mathlib.Core.Path.{◌≡◌, ap, ◌∙◌}
+use mathlib.Core.Path.{◌≡◌}
 use Prim.Native.Nat.{◌+◌, ◌≤◌, ◌-◌}
-use lib.ListN.{length, drop, get_or, length-append}
-use Rattle.framing.specs.Stuffing.{escape, stuff}
-use Rattle.framing.proofs.Escaping.{one_less, none_left, stuff_size}
+use lib.ListN.{length, drop}
+use Rattle.framing.specs.Stuffing.{stuff}
 use Rattle.framing.proofs.stuffed_length.Given as goal
 
 abbrev pub invariant-loop-i : goal.invariant-loop-i

@@ -5,7 +5,6 @@ use borrow.Author.Tests.{le-leb, lt-leb}
 use Rattle.collecting.specs.declared.Phase.{Phase}
 use Rattle.collecting.specs.declared.Control.{Control}
 use Rattle.gdl90.specs.Collecting.{control_of}
-use borrow.Author.Rules.{rules}
 use Rattle.gdl90.proofs.control_of.Goals as goal
 
 pub returns-then-control-le4 : goal.returns-then-control-le4

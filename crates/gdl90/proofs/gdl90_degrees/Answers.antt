@@ -1,6 +1,6 @@
 -- `gdl90::gdl90_degrees` meets its contract: what `units::in_degrees` answers.
 -- Assumes nothing.
-use mathlib.Core.Path.{◌≡◌, sym, ap, ◌∙◌, subst}
+use mathlib.Core.Path.{◌≡◌, sym, ◌∙◌, subst}
 use native.Mathlib.Omega.{arith}
 use lib.IntN.{ℤ}
 use mir.Syntax.{w32}
@@ -11,7 +11,6 @@ use Rattle.units.specs.declared.InDegrees.TheVariants.{At, Refused}
 use Rattle.units.specs.Degrees.{in_degrees, ExactlyAt}
 use Rattle.units.proofs.Exact.{exact_degrees}
 use Rattle.gdl90.specs.Degrees.{degrees_answer, ExactAnswer}
-use borrow.Author.Rules.{rules}
 use Rattle.gdl90.proofs.gdl90_degrees.Goals as goal
 
 -- the answer is the definition's, and so exact

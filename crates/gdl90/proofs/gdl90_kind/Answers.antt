@@ -7,10 +7,9 @@ use mathlib.Core.List.{List}
 use native.Mathlib.Omega.{arith}
 use lib.Dec.{eqb}
 use lib.ListN.{length, get_or}
-use borrow.Author.Tests.{eqb-false, eq-eqb, ne_eqb}
+use borrow.Author.Tests.{eqb-false}
 use Rattle.messages.specs.declared.Kind.TheVariants.{Unknown}
 use Rattle.messages.specs.Message.{kind_of, kind_in, kind_number}
-use borrow.Author.Rules.{rules}
 use Rattle.gdl90.proofs.gdl90_kind.Goals as goal
 
 some : (m : List ℕ) → kind_number (kind_in m) ≡ 0 → 0 < length m

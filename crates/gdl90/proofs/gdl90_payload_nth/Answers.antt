@@ -1,10 +1,8 @@
 -- `gdl90::gdl90_payload_nth` meets its contract: what `information_frames::nth` answers.
 -- Assumes nothing.
-use mathlib.Core.Path.{sym, ap, ◌∙◌}
+use mathlib.Core.Path.{sym, ◌∙◌}
 use native.Mathlib.Omega.{arith}
 use Rattle.information_frames.proofs.Rows.{inside}
-use Rattle.gdl90.specs.Payload.{payload_nth_answer}
-use borrow.Author.Rules.{rules}
 use Rattle.gdl90.proofs.gdl90_payload_nth.Goals as goal
 
 pub overflow_add-result : goal.overflow_add-result

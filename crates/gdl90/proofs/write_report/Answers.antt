@@ -1,14 +1,8 @@
 -- `gdl90::write_report` meets its contract.
 -- Assumes nothing.
-use borrow.Author.Tests.{le-leb, lt-leb}
+use borrow.Author.Tests.{lt-leb}
 use Rattle.numbers.specs.Lent.{written}
 use Rattle.codec.specs.Writing.{writing}
-use Rattle.message_types.specs.declared.Report.{Report}
-use mathlib.Core.Bool.{◌&&◌}
-use Rattle.report.specs.Bytes.{report_bytes}
-use Rattle.report.specs.Reading.{good_report, is_report_id}
-use Rattle.gdl90.proofs.Answering.{wrote}
-use borrow.Author.Rules.{rules}
 use Rattle.gdl90.proofs.write_report.Goals as goal
 
 pub returns : goal.returns

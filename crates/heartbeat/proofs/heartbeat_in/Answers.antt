@@ -1,6 +1,5 @@
 -- `heartbeat::heartbeat_in` meets its contract.
 -- Assumes nothing.
-use borrow.Author.Rules.{rules}
 use Rattle.heartbeat.specs.Heartbeat.{heartbeat_in}
 use Rattle.heartbeat.proofs.heartbeat_in.Goals as goal
 

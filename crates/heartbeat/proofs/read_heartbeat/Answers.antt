@@ -2,7 +2,6 @@
 -- Assumes nothing.
 use mathlib.Core.Path.{sym, ◌∙◌}
 use native.Mathlib.Omega.{arith}
-use borrow.Author.Rules.{rules}
 use Rattle.codec.specs.Reading.{reading}
 use Rattle.codec.proofs.Outcomes.{fits}
 use borrow.Author.Tests.{eq-eqb, ne_eqb}

@@ -1,8 +1,6 @@
 -- `heartbeat::write_heartbeat` meets its contract.
 -- Assumes nothing.
-use borrow.Author.Rules.{rules}
-use Rattle.heartbeat.proofs.Laws.{in_bits}
-use Rattle.codec.proofs.Outcomes.{wrote, refused}
+use Rattle.codec.proofs.Outcomes.{refused}
 use mathlib.Core.Path.{sym, ◌∙◌}
 use Rattle.heartbeat.proofs.write_heartbeat.Goals as goal
 

@@ -5,13 +5,12 @@ use mathlib.Core.Bool.{Bool}
 use Rattle.collecting.proofs.Ranging.{in_range}
 use Rattle.listing.specs.Listing.{state, collector, counted}
 use Rattle.listing.proofs.Steps.{answer_is, state_is, text_is}
-use borrow.Author.Rules.{rules}
 use Rattle.listing.proofs.advance.Goals as goal
 
 pub put_reply-end-requires : goal.put_reply-end-requires
 put_reply-end-requires c =
     let s = state c.args.l c.args.room.now in
-    let e = answer_is s c.args.byte c.step-stepped.result c.step-stepped.new.1.0 c.step-stepped.new.1.1.0 c.args.message.now c.step-stepped.ensures in
+    let e = answer_is s c.args.byte c.step-stepped.result c.step-stepped.new.room c.step-stepped.new.message c.args.message.now c.step-stepped.ensures in
     (c.requires.0, c.requires.1, rw e (in_range (collector s) c.args.byte), c.requires.2)
 
 pub returns : goal.returns
@@ -19,7 +18,8 @@ returns c =
     let g = c.put_reply-end in
     let z = c.args in
     let s = state z.l z.room.now in
-    let n = c.counted-lister.ensures ∙ ap (λ (t : Bool). counted z.l z.byte c.step-stepped.result.control t) c.is_answered.ensures in (
-      state_is s z.byte c.step-stepped.result c.step-stepped.new.1.0 c.step-stepped.new.1.1.0 z.message.now c.step-stepped.ensures c.counted-lister.result n,
-      (rw (text_is s z.byte c.step-stepped.result c.step-stepped.new.1.0 c.step-stepped.new.1.1.0 z.message.now c.step-stepped.ensures) at g.ensures.0, g.ensures.1),
-    )
+    let n = c.counted-lister.ensures ∙ ap (λ (t : Bool). counted z.l z.byte c.step-stepped.result.control t) c.is_answered.ensures in record {
+      room_after = state_is s z.byte c.step-stepped.result c.step-stepped.new.room c.step-stepped.new.message z.message.now c.step-stepped.ensures c.counted-lister.result n;
+      stored = rw (text_is s z.byte c.step-stepped.result c.step-stepped.new.room c.step-stepped.new.message z.message.now c.step-stepped.ensures) at g.ensures.stored;
+      end_bound = g.ensures.upper_bound;
+    }

@@ -1,7 +1,6 @@
 -- `listing::counted` meets its contract.
 -- Assumes nothing.
 use Rattle.listing.specs.Listing.{counted}
-use borrow.Author.Rules.{rules}
 use Rattle.listing.proofs.counted.Goals as goal
 
 pub returns : goal.returns

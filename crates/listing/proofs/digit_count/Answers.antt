@@ -1,10 +1,6 @@
 -- `listing::digit_count` meets its contract. The loop's invariant: the digits above the unit's, and those counted, are all.
 -- Assumes nothing.
 use native.Mathlib.Omega.{arith}
-use mathlib.Core.Path.{◌≡◌}
-use Prim.Native.Nat.{◌+◌, ◌-◌, ◌/◌, ◌≤◌}
-use lib.ListN.{length}
-use Rattle.listing.specs.Line.{decimal}
 use Rattle.listing.proofs.Texts.{unit_more, unit_last}
 use Rattle.listing.proofs.digit_count.Goals as goal
 

@@ -5,7 +5,6 @@ use Prim.Native.Nat.{◌-◌}
 use Rattle.numbers.specs.Lent.{Stored}
 use Rattle.listing.specs.Listing.{ending}
 use Rattle.listing.proofs.Rows.{ending_stored}
-use borrow.Author.Rules.{rules}
 use Rattle.listing.proofs.finish.Goals as goal
 
 pub returns : goal.returns
@@ -14,5 +13,5 @@ returns c =
     let q = c.put_field in
     let g = c.steady-l in
     let out = c.args.out.now in
-    let line : Stored out 0 (ending g.result) q.result q.new.0 = ending_stored out g.result.lead (g.result.taken - g.result.after) p.ensures.0 q.ensures.0 in
-    record { stored = rw g.ensures.0 at line; upper_bound = omega (arith, p.ensures.1, q.ensures.1, p.auto.0, q.auto.0) }
+    let line : Stored out 0 (ending g.result) q.result q.new.out = ending_stored out g.result.lead (g.result.taken - g.result.after) p.ensures.stored q.ensures.stored in
+    record { stored = rw g.ensures.0 at line; upper_bound = omega (arith, p.ensures.upper_bound, q.ensures.upper_bound, p.auto.out, q.auto.out) }

@@ -1,7 +1,6 @@
 -- `listing::opening` meets its contract.
 -- Assumes nothing.
 use Rattle.listing.specs.Listing.{opening}
-use borrow.Author.Rules.{rules}
 use Rattle.listing.proofs.opening.Goals as goal
 
 pub returns : goal.returns

@@ -4,7 +4,6 @@ use native.Mathlib.Omega.{arith}
 use Rattle.collecting.proofs.Filling.{unflagged_most}
 use Rattle.listing.specs.Listing.{state}
 use Rattle.listing.proofs.Passing.{passed_is}
-use borrow.Author.Rules.{rules}
 use Rattle.listing.proofs.pass.Goals as goal
 
 pub passed-lister-requires : goal.passed-lister-requires
@@ -13,4 +12,4 @@ passed-lister-requires c = omega (arith, unflagged_most c.args.bytes.now)
 pub returns : goal.returns
 returns c =
     let f = c.fill-filled in
-    record { taken_value = f.ensures.0; room_after = passed_is (state c.args.l c.args.room.now) c.args.bytes.now _ _ _ _ c.requires.0.lead_few f.ensures.0 f.ensures.1 c.passed-lister.ensures }
+    record { taken_value = f.ensures.taken_value; room_after = passed_is (state c.args.l c.args.room.now) c.args.bytes.now _ _ _ _ c.requires.0.lead_few f.ensures.taken_value f.ensures.room_after c.passed-lister.ensures }

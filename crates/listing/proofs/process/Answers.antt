@@ -1,25 +1,16 @@
 -- `listing::process` meets its contract. The loop's invariant is `Running`, within the bytes up to the limit.
 -- Assumes nothing.
 use native.Mathlib.Omega.{arith}
-use Prim.Native.Nat.{◌+◌, ◌-◌, ◌≤◌}
-use lib.ListN.{length, drop, length-take}
+use Prim.Native.Nat.{◌-◌}
+use lib.ListN.{drop, length-take}
 use Rattle.listing.specs.Listing.{state}
-use Rattle.listing.proofs.Steps.{Running, running_start, running_stop, running_more, taken_room}
+use Rattle.listing.proofs.Steps.{running_start, running_stop, running_more, taken_room}
 use Rattle.listing.proofs.Passing.{running_pass, running_taken, taken_stop}
 use Rattle.listing.proofs.process.Goals as goal
 
--- what holds behind the bytes before a flag
-abbrev Passed : tie.After-pass invariant-loop decreases-loop → Type 0
-Passed c =
-    let l = c.before.before.before.before in
-    let z = l.before.before.before.before.before.before.args in
-    (l.loop.i + c.pass.result.taken ≤ l.before.up-to-limit.result)
-    × Running (state l.before.before.settled.result l.before.before.settled.new.1.0) z.bytes.now z.out.now l.loop.out (state c.pass.result.lister c.pass.new.1.0) (l.loop.i + c.pass.result.taken) l.loop.at
-
 pub loop-out-init : goal.loop-out-init
 loop-out-init c =
-    let z = c.args in
-    (omega arith, running_start (state c.settled-l.result c.settled-l.new.1.0) z.bytes.now z.out.now c.settled-l.ensures.1)
+    (omega arith, running_start (state c.settled-l.result c.settled-l.new.room) c.args.bytes.now c.args.out.now c.settled-l.ensures.1)
 
 pub pass-p-requires : goal.pass-p-requires
 pass-p-requires c =
@@ -43,8 +34,7 @@ pub loop-out-preserved : goal.loop-out-preserved
 loop-out-preserved c =
     let g = c.advance-a in
     let w = (running_pass _ c.up_to_limit-end.result c.loop-out.invariant.1 (omega (arith, c.loop-out.invariant.1.same)) c.loop-out.invariant.0 (omega arith) (omega (arith, running_taken c.loop-out.invariant.1)) c.pass-p.ensures.taken_value c.pass-p.ensures.room_after).1 in
-    let end = c.up_to_limit-end.ensures in
-    (omega arith, running_more w (omega arith) (omega (arith, running_taken w)) (omega (arith, w.same)) g.ensures.0 g.ensures.1.0 g.ensures.1.1)
+    (omega arith, running_more w (omega arith) (omega (arith, running_taken w)) (omega (arith, w.same)) g.ensures.room_after g.ensures.stored g.ensures.end_bound)
 
 pub returns : goal.returns
 returns c =

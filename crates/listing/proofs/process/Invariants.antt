@@ -1,11 +1,9 @@
 -- `listing::process` meets its contract. The loop's invariant is `Running`, within the bytes up to the limit.
 -- Assumes nothing.
-use native.Mathlib.Omega.{arith}
-use Prim.Native.Nat.{◌+◌, ◌-◌, ◌≤◌}
-use lib.ListN.{length, drop, length-take}
+use Prim.Native.Nat.{◌-◌, ◌≤◌}
+use lib.ListN.{length}
 use Rattle.listing.specs.Listing.{state}
-use Rattle.listing.proofs.Steps.{Running, running_start, running_stop, running_more, taken_room}
-use Rattle.listing.proofs.Passing.{running_pass, running_taken, taken_stop}
+use Rattle.listing.proofs.Steps.{Running}
 use Rattle.listing.proofs.process.Given as goal
 
 abbrev pub invariant-loop-out : goal.invariant-loop-out

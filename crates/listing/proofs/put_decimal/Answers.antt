@@ -2,10 +2,8 @@
 -- Assumes nothing.
 use native.Mathlib.Omega.{arith}
 use mathlib.Core.Path.{◌≡◌, refl, ◌∙◌}
-use Prim.Native.Nat.{◌+◌, ◌/◌, ◌<◌}
-use lib.ListN.{length, length-set}
-use lib.Seq.{sets}
-use Rattle.listing.specs.Line.{decimal}
+use Prim.Native.Nat.{◌/◌}
+use lib.ListN.{length-set}
 use Rattle.listing.proofs.Texts.{decimal_small, length_small, length_large, length_some, last_first}
 use Rattle.listing.proofs.put_decimal.Goals as goal
 

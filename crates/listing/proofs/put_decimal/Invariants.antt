@@ -1,12 +1,10 @@
 -- `listing::put_decimal` meets its contract. The loop's invariant: with the digits of the rest in front of those written, all are.
 -- Assumes nothing.
-use native.Mathlib.Omega.{arith}
-use mathlib.Core.Path.{◌≡◌, refl, ◌∙◌}
-use Prim.Native.Nat.{◌+◌, ◌/◌, ◌<◌}
-use lib.ListN.{length, length-set}
+use mathlib.Core.Path.{◌≡◌}
+use Prim.Native.Nat.{◌+◌, ◌<◌}
+use lib.ListN.{length}
 use lib.Seq.{sets}
 use Rattle.listing.specs.Line.{decimal}
-use Rattle.listing.proofs.Texts.{decimal_small, length_small, length_large, length_some, last_first}
 use Rattle.listing.proofs.put_decimal.Given as goal
 
 abbrev pub invariant-loop-rest : goal.invariant-loop-rest

@@ -1,10 +1,8 @@
 -- `listing::put_field` meets its contract: the digits and the byte behind them, or the dash and that byte.
 -- Assumes nothing.
 use native.Mathlib.Omega.{arith}
-use lib.ListN.{length-set}
 use Rattle.listing.proofs.Texts.{decimal-length}
 use Rattle.listing.proofs.Rows.{digits_then, dash_then}
-use borrow.Author.Rules.{rules}
 use Rattle.listing.proofs.put_field.Goals as goal
 
 pub put_decimal-end-requires : goal.put_decimal-end-requires
@@ -13,7 +11,7 @@ put_decimal-end-requires c = omega (arith, decimal-length 9 c.args.n (omega arit
 pub bounds-out-end : goal.bounds-out-end
 bounds-out-end c =
     let g = c.put_decimal-end in
-    omega (arith, decimal-length 9 c.args.n (omega arith), g.ensures.ends, g.auto.0)
+    omega (arith, decimal-length 9 c.args.n (omega arith), g.ensures.ends, g.auto.out)
 
 pub overflow_add-result : goal.overflow_add-result
 overflow_add-result c =

@@ -7,7 +7,6 @@ use Prim.Native.Nat.{◌+◌}
 use Rattle.listing.specs.Line.{digits, shown_as}
 use Rattle.listing.specs.Listing.{answer_line}
 use Rattle.listing.proofs.Rows.{field_then, last_field}
-use borrow.Author.Rules.{rules}
 use Rattle.listing.proofs.put_line.Goals as goal
 
 pub returns : goal.returns

@@ -6,7 +6,6 @@ use native.Mathlib.Nat.{add-zero}
 use Rattle.collecting.specs.Stream.{reply}
 use Rattle.listing.specs.Listing.{reply_line}
 use Rattle.listing.proofs.Rows.{ranged, position_most, accepted_line}
-use borrow.Author.Rules.{rules}
 use Rattle.listing.proofs.put_reply.Goals as goal
 
 pub read_number-requires : goal.read_number-requires
@@ -33,10 +32,10 @@ returns-in-Accepted c =
     let n = c.read_number in
     let k = ranged _ _ c.in-Accepted.is c.requires.2 in
     let line = accepted_line c.args.l c.args.answer c.args.message.now c.in-Accepted.k c.in-Accepted.is k.0 (omega arith) in
-    record { stored = rw (← line, ← n.ensures) g.ensures.0; upper_bound = g.ensures.1 }
+    record { stored = rw (← line, ← n.ensures) g.ensures.stored; upper_bound = g.ensures.upper_bound }
 
 pub returns-in-Refused : goal.returns-in-Refused
 unfolding reply reply_line
 returns-in-Refused c =
     let g = c.put_line-in-Refused in
-    record { stored = rw c.in-Refused.is g.ensures.0; upper_bound = g.ensures.1 }
+    record { stored = rw c.in-Refused.is g.ensures.stored; upper_bound = g.ensures.upper_bound }

@@ -4,7 +4,6 @@ use mathlib.Core.Path.{◌≡◌, sym, ap, ◌∙◌}
 use mathlib.Core.Bool.{Bool, false, cond}
 use Rattle.listing.specs.Listing.{state, start, holds, settled}
 use Rattle.listing.proofs.Steps.{sane_start, sane_holds, settled_sane}
-use borrow.Author.Rules.{rules}
 use Rattle.listing.proofs.settled.Goals as goal
 
 pub returns-then-holds : goal.returns-then-holds

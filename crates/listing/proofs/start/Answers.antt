@@ -4,7 +4,6 @@ use mathlib.Core.Path.{ap}
 use lib.ListN.{replicate}
 use Rattle.listing.specs.declared.Lister.{Lister}
 use Rattle.listing.specs.Listing.{state, start}
-use borrow.Author.Rules.{rules}
 use Rattle.listing.proofs.start.Goals as goal
 
 pub returns : goal.returns

@@ -4,7 +4,6 @@ use mathlib.Core.Path.{◌≡◌, sym, ap, ◌∙◌}
 use mathlib.Core.Bool.{Bool, false, cond}
 use Rattle.listing.specs.Listing.{opening, holds, steady}
 use Rattle.listing.proofs.Steps.{sane_opening, sane_holds, steady_sane}
-use borrow.Author.Rules.{rules}
 use Rattle.listing.proofs.steady.Goals as goal
 
 pub returns-then-holds : goal.returns-then-holds

@@ -1,7 +1,6 @@
 -- `messages::kind_in` meets its contract.
 -- Assumes nothing.
 use borrow.Author.Tests.{eq-eqb, ne_eqb}
-use borrow.Author.Rules.{rules}
 use Rattle.messages.specs.Message.{kind_in}
 use Rattle.messages.proofs.kind_in.Goals as goal
 

@@ -1,6 +1,5 @@
 -- `messages::read` meets its contract.
 -- Assumes nothing.
-use borrow.Author.Rules.{rules}
 use Rattle.messages.specs.Message.{read_message}
 use Rattle.messages.proofs.read.Goals as goal
 

@@ -15,7 +15,6 @@ use Rattle.message_types.specs.declared.UplinkRead.{UplinkRead}
 use Rattle.message_types.specs.declared.Message.TheVariants as kind
 use Rattle.messages.specs.Message.{as_reading}
 use Rattle.messages.proofs.Dispatch.{of_kind}
-use borrow.Author.Rules.{rules}
 use Rattle.messages.proofs.read_as.Goals as goal
 
 pub returns-in-Heartbeat : goal.returns-in-Heartbeat

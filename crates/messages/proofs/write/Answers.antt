@@ -2,7 +2,6 @@
 -- Assumes nothing.
 use mathlib.Core.Path.{refl}
 use Rattle.messages.proofs.Dispatch.{wrote, wrote_uplink}
-use borrow.Author.Rules.{rules}
 use Rattle.messages.proofs.write.Goals as goal
 
 pub returns-in-Heartbeat : goal.returns-in-Heartbeat

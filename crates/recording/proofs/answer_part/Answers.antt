@@ -9,7 +9,6 @@ use Rattle.collecting.specs.Stream.{reply, unflagged}
 use Rattle.collecting.specs.Between.{reply_between}
 use Rattle.collecting.proofs.Filling.{unflagged_most, unflagged_flagless}
 use Rattle.recording.proofs.Checking.{in_room, answered_part, no_flag, closing_flag}
-use borrow.Author.Rules.{rules}
 use Rattle.recording.proofs.answer_part.Goals as goal
 
 pub returns-then-end-recording : goal.returns-then-end-recording

@@ -1,11 +1,6 @@
 -- `recording::check` meets its contract.
 -- Assumes nothing.
-use native.Mathlib.Omega.{arith}
-use Prim.Native.Nat.{◌-◌}
-use mathlib.Core.Path.{sym}
-use lib.Seq.{length-take-le}
 use Rattle.recording.proofs.Checking.{faulty, empty, short, agrees, differs}
-use borrow.Author.Rules.{rules}
 use Rattle.recording.proofs.check.Goals as goal
 
 pub returns-then-unstuffed-ne0 : goal.returns-then-unstuffed-ne0

@@ -2,14 +2,13 @@
 -- Assumes nothing.
 use native.Mathlib.Omega.{arith}
 use mathlib.Core.Path.{◌≡◌, refl, sym, ap, ap₂, ◌∙◌}
-use Prim.Native.Nat.{ℕ, ◌≤◌, ◌-◌, ◌+◌}
+use Prim.Native.Nat.{ℕ}
 use mathlib.Core.Bool.{Bool, cond}
-use mathlib.Core.Logic.{⊎_elim}
 use mathlib.Core.List.{List}
 use lib.ListN.{length}
 use Rattle.collecting.specs.Stream.{Reply}
-use Rattle.recording.specs.Recording.{end_to_end, answers_between, each_answer, message_in}
-use Rattle.recording.proofs.Turns.{answers_from, none_from, from_first_flag, turn_count, turn_size, turn_ends}
+use Rattle.recording.specs.Recording.{end_to_end, message_in}
+use Rattle.recording.proofs.Turns.{none_from, from_first_flag, turn_count, turn_size, turn_ends}
 use Rattle.recording.proofs.Bounding.{most}
 use Rattle.recording.proofs.measure.Goals.{then-is_answered, else-is_answered}
 use Rattle.recording.proofs.measure.Goals as goal

@@ -1,16 +1,10 @@
 -- `recording::measure` meets its contract. The loop's invariant: what is counted, and what is left to count, make the whole.
 -- Assumes nothing.
-use native.Mathlib.Omega.{arith}
-use mathlib.Core.Path.{◌≡◌, refl, sym, ap, ap₂, ◌∙◌}
-use Prim.Native.Nat.{ℕ, ◌≤◌, ◌-◌, ◌+◌}
-use mathlib.Core.Bool.{Bool, cond}
-use mathlib.Core.Logic.{⊎_elim}
-use mathlib.Core.List.{List}
+use mathlib.Core.Path.{◌≡◌}
+use Prim.Native.Nat.{◌≤◌, ◌-◌, ◌+◌}
 use lib.ListN.{length}
-use Rattle.collecting.specs.Stream.{Reply}
 use Rattle.recording.specs.Recording.{end_to_end, answers_between, each_answer, message_in}
-use Rattle.recording.proofs.Turns.{answers_from, none_from, from_first_flag, turn_count, turn_size, turn_ends}
-use Rattle.recording.proofs.Bounding.{most}
+use Rattle.recording.proofs.Turns.{answers_from}
 use Rattle.recording.proofs.measure.Given as goal
 
 abbrev pub invariant-loop-i : goal.invariant-loop-i

@@ -2,11 +2,9 @@
 -- Assumes nothing.
 use native.Mathlib.Omega.{arith}
 use mathlib.Core.Path.{◌≡◌, ap, ◌∙◌}
-use Prim.Native.Nat.{ℕ, ◌+◌}
 use lib.ListN.{drop, length-drop}
 use Rattle.collecting.specs.Stream.{unflagged}
 use Rattle.collecting.proofs.Filling.{unflagged_most, rest}
-use borrow.Author.Rules.{rules}
 use Rattle.recording.proofs.part_end.Goals as goal
 
 pub overflow_add-result : goal.overflow_add-result

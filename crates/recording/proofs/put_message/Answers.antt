@@ -2,12 +2,11 @@
 -- Assumes nothing.
 use native.Mathlib.Omega.{arith}
 use native.Mathlib.Numerals.{add-one}
-use mathlib.Core.Path.{◌≡◌, refl, ap, ◌∙◌}
-use Prim.Native.Nat.{ℕ, ◌+◌, ◌-◌, ◌≤◌}
+use mathlib.Core.Path.{◌≡◌, ap, ◌∙◌}
+use Prim.Native.Nat.{ℕ, ◌+◌}
 use mathlib.Core.List.{[], ◌∷◌, ◌++◌}
-use lib.ListN.{length, take, get_or, length-set}
-use lib.Seq.{take-suc, take-length}
-use Rattle.numbers.specs.Lent.{Stored}
+use lib.ListN.{take, get_or, length-set}
+use lib.Seq.{take-suc}
 use Rattle.numbers.proofs.Storing.{also}
 use Rattle.recording.proofs.put_message.Goals as goal
 

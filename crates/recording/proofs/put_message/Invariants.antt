@@ -1,14 +1,9 @@
 -- `recording::put_message` meets its contract. The loop's invariant: the bytes passed are stored.
 -- Assumes nothing.
-use native.Mathlib.Omega.{arith}
-use native.Mathlib.Numerals.{add-one}
-use mathlib.Core.Path.{◌≡◌, refl, ap, ◌∙◌}
-use Prim.Native.Nat.{ℕ, ◌+◌, ◌-◌, ◌≤◌}
-use mathlib.Core.List.{[], ◌∷◌, ◌++◌}
-use lib.ListN.{length, take, get_or, length-set}
-use lib.Seq.{take-suc, take-length}
+use mathlib.Core.Path.{◌≡◌}
+use Prim.Native.Nat.{◌+◌, ◌-◌, ◌≤◌}
+use lib.ListN.{length, take}
 use Rattle.numbers.specs.Lent.{Stored}
-use Rattle.numbers.proofs.Storing.{also}
 use Rattle.recording.proofs.put_message.Given as goal
 
 abbrev pub invariant-loop-i : goal.invariant-loop-i

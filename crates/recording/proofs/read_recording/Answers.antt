@@ -9,7 +9,6 @@ use lib.ListN.{length}
 use Rattle.numbers.specs.Lent.{written}
 use Rattle.recording.specs.declared.Needed.{Needed}
 use Rattle.recording.specs.Recording.{needed_by, is_short, recorded}
-use borrow.Author.Rules.{rules}
 use Rattle.recording.proofs.read_recording.Goals as goal
 
 -- the test, of what is needed

@@ -3,7 +3,6 @@
 use native.Mathlib.Omega.{arith}
 use Rattle.numbers.specs.Bits.{◌⊕◌}
 use Rattle.recording.proofs.Unescaping.{plain, cut_off, escaped, bad_escape}
-use borrow.Author.Rules.{rules}
 use Rattle.recording.proofs.unescape.Goals as goal
 
 pub returns-then-sent-ne125 : goal.returns-then-sent-ne125

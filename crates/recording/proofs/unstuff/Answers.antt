@@ -1,9 +1,7 @@
 -- `recording::unstuff` meets its contract. The loop's invariant: `Unpacked`.
 -- Assumes nothing.
 use native.Mathlib.Omega.{arith}
-use Prim.Native.Nat.{◌-◌}
-use lib.ListN.{length}
-use Rattle.recording.proofs.Unescaping.{Unpacked, starts, ended, full, more, finished}
+use Rattle.recording.proofs.Unescaping.{starts, ended, full, more, finished}
 use Rattle.recording.proofs.unstuff.Goals as goal
 
 pub loop-taken-init : goal.loop-taken-init

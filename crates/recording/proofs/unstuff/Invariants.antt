@@ -1,9 +1,8 @@
 -- `recording::unstuff` meets its contract. The loop's invariant: `Unpacked`.
 -- Assumes nothing.
-use native.Mathlib.Omega.{arith}
 use Prim.Native.Nat.{◌-◌}
 use lib.ListN.{length}
-use Rattle.recording.proofs.Unescaping.{Unpacked, starts, ended, full, more, finished}
+use Rattle.recording.proofs.Unescaping.{Unpacked}
 use Rattle.recording.proofs.unstuff.Given as goal
 
 abbrev pub invariant-loop-taken : goal.invariant-loop-taken

@@ -1,16 +1,16 @@
 -- `recording::write` meets its contract. The loop's invariant: what is left is to store what is left to be answered.
 -- Assumes nothing.
 use native.Mathlib.Omega.{arith}
-use mathlib.Core.Path.{◌≡◌, refl, sym, ap, ◌∙◌, subst}
+use mathlib.Core.Path.{◌≡◌, refl, ap, ◌∙◌, subst}
 use mathlib.Core.Bool.{Bool, true, false, ◌||◌, true≢false}
-use Prim.Native.Nat.{ℕ, ◌≤◌, ◌-◌, ◌+◌, ◌*◌, ◌/◌}
+use Prim.Native.Nat.{ℕ, ◌≤◌, ◌+◌, ◌*◌, ◌/◌}
 use mathlib.Core.List.{List, [], ◌∷◌, map}
 use lib.Dec.{ltb}
 use lib.ListN.{length, take, length-append}
 use lib.Seq.{length-take-le}
 use borrow.Author.Tests.{ltb-false}
 use Rattle.numbers.specs.Lent.{Stored}
-use Rattle.numbers.proofs.Storing.{stored-length, Rest, rest_more, rest_none, rest_size, from_first}
+use Rattle.numbers.proofs.Storing.{stored-length, rest_more, rest_none, rest_size, from_first}
 use Rattle.collecting.specs.Stream.{Reply, nothing, message, refused}
 use Rattle.collecting.specs.Between.{reply_between}
 use Rattle.recording.specs.Cut.{cut, between_flags}

@@ -1,10 +1,8 @@
 -- `report::climb_steps` meets its contract, by the mark.
 -- Assumes nothing.
 use mathlib.Core.Path.{sym, ◌∙◌}
-use borrow.Author.Rules.{rules}
 use Rattle.units.proofs.Wide.{back32}
-use Rattle.report.specs.Marks.{climb_of}
-use Rattle.report.proofs.Marked.{climb_plain, climb_marked}
+use Rattle.report.proofs.Marked.{climb_plain}
 use Rattle.report.proofs.climb_steps.Goals as goal
 
 pub returns-then-climb_mark-eq0 : goal.returns-then-climb_mark-eq0

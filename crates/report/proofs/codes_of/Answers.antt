@@ -4,7 +4,6 @@ use mathlib.Core.Path.{ap, ◌∙◌}
 use Rattle.units.proofs.Wide.{back32}
 use Rattle.numbers.specs.Signed.{field_of}
 use Rattle.report.specs.Bytes.{codes_of}
-use borrow.Author.Rules.{rules}
 use Rattle.report.proofs.codes_of.Goals as goal
 
 pub returns : goal.returns

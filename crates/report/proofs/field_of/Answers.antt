@@ -1,14 +1,11 @@
 -- `report::field_of` meets its contract, by the sign.
 -- Assumes nothing.
-use mathlib.Core.Path.{◌≡◌, sym, ap, ◌∙◌}
+use mathlib.Core.Path.{sym, ap, ◌∙◌}
 use Prim.Native.Nat.{◌-◌, ◌*◌}
-use borrow.Author.Rules.{rules}
-use lib.IntN.{ℤ, nat_abs, pos, negsuc}
-use lib.Signed.{mag}
+use lib.IntN.{ℤ, nat_abs}
 use mir.Syntax.{w32}
-use mir.Val.{to_z, of_z}
 use mir.Facts.{to_z-of_z}
-use Rattle.numbers.proofs.Signed.{negative, natural, flipped, asks}
+use Rattle.numbers.proofs.Signed.{negative, natural, flipped}
 use Rattle.numbers.specs.Signed.{field_of}
 use Rattle.report.proofs.field_of.Goals as goal
 

@@ -12,7 +12,6 @@ use Rattle.c_report.specs.Flat.{climb_steps}
 use Rattle.report.specs.Marks.{climb_of}
 use Rattle.report.specs.Reading.{between, south_pole, north_pole, lowest_climb, highest_climb}
 use Rattle.report.proofs.Good.{good_in}
-use borrow.Author.Rules.{rules}
 use Rattle.report.proofs.holds_good_report.Goals as goal
 
 pub returns : goal.returns

@@ -6,7 +6,6 @@ use lib.Dec.{eqb}
 use lib.IntN.{pos, negsuc}
 use Rattle.units.proofs.Wide.{back32}
 use Rattle.report.specs.Reading.{between, is_zero, good_position}
-use borrow.Author.Rules.{rules}
 use Rattle.report.proofs.is_good_position.Goals as goal
 
 pub returns : goal.returns

@@ -7,7 +7,6 @@ use lib.IntN.{pos, negsuc}
 use Rattle.units.proofs.Wide.{back32}
 use Rattle.report.specs.Reading.{between}
 use Rattle.report.specs.Reading.{good_report}
-use borrow.Author.Rules.{rules}
 use Rattle.report.proofs.is_good_report.Goals as goal
 
 pub returns : goal.returns

@@ -11,7 +11,6 @@ use Rattle.c_report.specs.Flat.{position_mark, altitude_mark, altitude_steps, sp
 use Rattle.report.specs.Marks.{position_of, altitude_of, speed_of, climb_of}
 use Rattle.report.specs.Bytes.{codes_in, report_in}
 use Rattle.report.proofs.Marked.{kind_code, degrees_in}
-use borrow.Author.Rules.{rules}
 use Rattle.report.proofs.numbers_in.Goals as goal
 
 pub returns : goal.returns

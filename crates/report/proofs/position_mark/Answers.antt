@@ -1,7 +1,6 @@
 -- `report::position_mark` meets its contract.
 -- Assumes nothing.
 use mathlib.Core.Path.{sym, ◌∙◌}
-use borrow.Author.Rules.{rules}
 use Rattle.report.specs.Marks.{position_of}
 use Rattle.report.proofs.position_mark.Goals as goal
 

@@ -10,7 +10,6 @@ use Rattle.c_report.specs.declared.FlatReport.{FlatReport}
 use Rattle.c_report.specs.declared.FlatReportRead.{FlatReportRead}
 use Rattle.report.specs.Bytes.{report_in}
 use Rattle.report.specs.Reading.{good_report, report_accepted, report_refused, report_read}
-use borrow.Author.Rules.{rules}
 use Rattle.report.proofs.read_report.Goals as goal
 
 module _ (id size : ℕ) (m : List ℕ) where

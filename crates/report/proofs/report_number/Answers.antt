@@ -1,7 +1,6 @@
 -- `report::report_number` meets its contract.
 -- Assumes nothing.
 use mathlib.Core.Path.{sym, ◌∙◌}
-use borrow.Author.Rules.{rules}
 use borrow.Author.Tests.{eq-eqb, ne_eqb}
 use Rattle.codec.specs.Reading.{reading}
 use Rattle.codec.proofs.Outcomes.{fits}

@@ -6,7 +6,6 @@ use native.Mathlib.Omega.{arith}
 use mir.Syntax.{w32}
 use mir.Val.{to_z}
 use Rattle.numbers.proofs.Signed.{low, high}
-use borrow.Author.Rules.{rules}
 use Rattle.report.proofs.signed_in.Goals as goal
 
 pub returns-then-field-half : goal.returns-then-field-half

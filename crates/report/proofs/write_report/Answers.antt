@@ -3,7 +3,6 @@
 use mathlib.Core.Path.{ap, ◌∙◌}
 use Rattle.codec.proofs.Outcomes.{wrote, refused}
 use Rattle.report.specs.Bytes.{packed, report_bytes}
-use borrow.Author.Rules.{rules}
 use Rattle.report.proofs.write_report.Goals as goal
 
 pub returns-then-is_report_id-is_good_report : goal.returns-then-is_report_id-is_good_report

@@ -1,7 +1,6 @@
 -- `tallying::raised` meets its contract, by the answer.
 -- Assumes nothing.
 use mathlib.Core.Path.{sym, ap, ◌∙◌}
-use borrow.Author.Rules.{rules}
 use Rattle.tallying.specs.Tally.{tallied}
 use Rattle.tallying.proofs.raised.Goals as goal
 

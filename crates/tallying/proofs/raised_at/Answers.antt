@@ -1,7 +1,6 @@
 -- `tallying::raised_at` meets its contract.
 -- Assumes nothing.
 use Rattle.tallying.proofs.Counting.{no_count, goes_up}
-use borrow.Author.Rules.{rules}
 use Rattle.tallying.proofs.raised_at.Goals as goal
 
 pub returns-then-i-ge6 : goal.returns-then-i-ge6

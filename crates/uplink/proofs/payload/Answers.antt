@@ -1,12 +1,11 @@
 -- `uplink::payload` meets its contract: what is read as an uplink has 436 bytes.
 -- Assumes nothing.
-use borrow.Author.Rules.{rules}
 use Rattle.uplink.proofs.Uplinks.{sized}
 use lib.ListN.{length, take, drop}
 use Prim.Native.Nat.{ℕ, ◌-◌}
 use native.Mathlib.Omega.{arith}
 use mathlib.Core.Path.{◌≡◌, refl, ap}
-use borrow.Author.Tests.{eq-eqb, ne_eqb}
+use borrow.Author.Tests.{eq-eqb}
 use Rattle.uplink.proofs.payload.Goals as goal
 
 pub slice_bounds-result-count-2 : goal.slice_bounds-result-count-2

@@ -1,6 +1,5 @@
 -- `uplink::reception_of` meets its contract.
 -- Assumes nothing.
-use borrow.Author.Rules.{rules}
 use Rattle.uplink.specs.Reception.{reception_of}
 use borrow.Author.Tests.{eq-eqb, ne_eqb}
 use Rattle.uplink.proofs.reception_of.Goals as goal
