@@ -476,13 +476,13 @@ pub fn position(answer: Answer) -> usize
 }
 
 // The whole state by value, for readers and simple callers: each step copies it.
-#[derive(Drop)]
+#[derive(Clone, Copy)]
 pub struct Collector {
     pub control: Control,
     pub room: [u8; 438],
 }
 
-#[derive(Drop)]
+#[derive(Clone, Copy)]
 pub struct Collected {
     pub state: Collector,
     pub answer: Answer,

@@ -16,7 +16,8 @@ returns-then-not-is_good_reception c = right_size _ _ _ c.if-payload-ne432.false
 
 pub returns-then-out-lt-LENGTH : goal.returns-then-out-lt-LENGTH
 returns-then-out-lt-LENGTH c =
-    right_size _ _ _ c.if-payload-ne432.false (wrote (sym c.is_good_reception.ensures ∙ not-false _ c.if-not-is_good_reception.false-raw) refl (no_room _ _ (omega (arith, c.if-payload-ne432.false, c.if-out-lt-LENGTH.true))))
+    right_size _ _ _ c.if-payload-ne432.false
+    (wrote (sym c.is_good_reception.ensures ∙ not-false _ c.if-not-is_good_reception.false-raw) refl (no_room _ _ (omega arith)))
 
 pub returns : goal.returns
 returns c =
