@@ -6,7 +6,6 @@ use Prim.Native.Nat.{ℕ, suc, ◌+◌, ◌-◌, ◌*◌, ◌/◌, ◌≤◌, �
 use mathlib.Core.List.{List, [], ◌∷◌, map}
 use native.Mathlib.Omega.{arith}
 use lib.Dec.{eqb, ltb}
-use borrow.Author.Tests.{le-ltb}
 use lib.ListN.{length, take, drop, get_or, length-take, length-append, length-drop}
 use Rattle.fcs.specs.Fcs.{fcs}
 use Rattle.framing.specs.Stuffing.{flag, Unstuffed, unstuff}
@@ -16,7 +15,7 @@ use Rattle.collecting.specs.Between.{whole, verdict, reply_between}
 use Rattle.recording.specs.Steps.{first_fault, stuffed_taken}
 use Rattle.recording.proofs.Judging.{verdict_judged}
 use Rattle.recording.specs.Cut.{onto, cut, closed_parts, between_flags, flag_count}
-use Rattle.recording.specs.Recording.{end_to_end, if_answer, answers_between, each_answer, message_in, recorded}
+use Rattle.recording.specs.Recording.{end_to_end, if_answer, answers_between, each_answer, message_in, is_short, recorded}
 use Rattle.recording.specs.Claims.{Enough}
 use Rattle.recording.proofs.Cutting.{First, has_first, closed_two, part_answers}
 use Rattle.recording.proofs.Turns.{each_once}
@@ -133,4 +132,5 @@ pub enough : Enough
 unfolding recorded
 enough bs numbers bytes h k =
     let m = most bs in
-    rw (le-ltb (numbers / 3) (length (answers_between bs)) (omega (arith, m.flags, m.halves)), le-ltb bytes (length (each_answer message_in bs)) (omega (arith, m.bytes))) refl
+    let short : is_short bs numbers bytes ≡ false = grind (arith, m.flags, m.halves, m.bytes) in
+    rw short refl
