@@ -110,7 +110,7 @@ module _ {s₀ : State} {bs out₀ out : List ℕ} {s s' : State} {i at : ℕ} (
         same = w.same;
       }
 
-  pub running_pass : i ≤ end → end ≤ length bs → s.lister.taken + (end - i) ≤ limit → n ≡ unflagged (take (end - i) (drop i bs))
+  running_pass : i ≤ end → end ≤ length bs → s.lister.taken + (end - i) ≤ limit → n ≡ unflagged (take (end - i) (drop i bs))
       → s' ≡ reached s (take n (take (end - i) (drop i bs))) → (i + n ≤ end) × Running s₀ bs out₀ out s' (i + n) at
   running_pass a b h u e =
       let p = take (end - i) (drop i bs) in
@@ -129,3 +129,9 @@ module _ {s₀ : State} {bs out₀ out : List ℕ} {s : State} {i at : ℕ} (w :
       go : (t : Bool) → leb (length bs) i ≡ t → taken_of s (drop i bs) room ≡ 0
       go true e = taken_end s bs i room (leb-true (length bs) i e)
       go false e = taken_limit s (drop i bs) room (omega (arith, running_taken, leb-false (length bs) i e))
+
+-- of the bytes up to the limit, as many as are left are passed
+pub pass_running : {s₀ : State} {bs out₀ out : List ℕ} {s s' : State} {i at : ℕ} (n end : ℕ) → Running s₀ bs out₀ out s i at → longest ≤ length out - at → i ≤ end
+    → s₀.lister.taken ≤ limit → end ≡ min (length bs) (limit - s₀.lister.taken) → n ≡ unflagged (take (end - i) (drop i bs))
+    → s' ≡ reached s (take n (take (end - i) (drop i bs))) → (i + n ≤ end) × Running s₀ bs out₀ out s' (i + n) at
+pass_running n end w fits a few e u r = running_pass n end w (omega (arith, w.same)) a (omega arith) (omega (arith, running_taken w)) u r

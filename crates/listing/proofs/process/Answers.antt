@@ -5,7 +5,7 @@ use Prim.Native.Nat.{◌-◌}
 use lib.ListN.{drop, length-take}
 use Rattle.listing.specs.Listing.{state}
 use Rattle.listing.proofs.Steps.{running_start, running_stop, running_more, taken_room}
-use Rattle.listing.proofs.Passing.{running_pass, running_taken, taken_stop}
+use Rattle.listing.proofs.Passing.{pass_running, running_taken, taken_stop}
 use Rattle.listing.proofs.process.Goals as goal
 
 pub loop-out-init : goal.loop-out-init
@@ -18,22 +18,27 @@ pass-p-requires c =
     (c.loop-out.invariant.1.sane, omega (arith, running_taken c.loop-out.invariant.1, length-take (c.up_to_limit-end.result - c.loop-out.i) (drop c.loop-out.i z.bytes.now)))
 
 pub overflow_add-i : goal.overflow_add-i
-overflow_add-i c = omega (arith, (running_pass _ c.up_to_limit-end.result c.loop-out.invariant.1 (omega (arith, c.loop-out.invariant.1.same)) c.loop-out.invariant.0 (omega arith) (omega (arith, running_taken c.loop-out.invariant.1)) c.pass-p.ensures.taken_value c.pass-p.ensures.room_after))
+overflow_add-i c =
+    let l = c.loop-out in
+    omega (arith, pass_running _ _ l.invariant.1 c.loop-out-test.true l.invariant.0 c.settled-l.ensures.1.few c.up_to_limit-end.ensures c.pass-p.ensures.taken_value c.pass-p.ensures.room_after)
 
 pub returns-then-end-i : goal.returns-then-end-i
 returns-then-end-i c =
-    let w = (running_pass _ c.up_to_limit-end.result c.loop-out.invariant.1 (omega (arith, c.loop-out.invariant.1.same)) c.loop-out.invariant.0 (omega arith) (omega (arith, running_taken c.loop-out.invariant.1)) c.pass-p.ensures.taken_value c.pass-p.ensures.room_after).1 in
+    let l = c.loop-out in
+    let w = (pass_running _ _ l.invariant.1 c.loop-out-test.true l.invariant.0 c.settled-l.ensures.1.few c.up_to_limit-end.ensures c.pass-p.ensures.taken_value c.pass-p.ensures.room_after).1 in
     running_stop c.settled-l.ensures.0 w (taken_stop w _ (omega arith))
 
 pub advance-a-requires : goal.advance-a-requires
 advance-a-requires c =
-    let w = (running_pass _ c.up_to_limit-end.result c.loop-out.invariant.1 (omega (arith, c.loop-out.invariant.1.same)) c.loop-out.invariant.0 (omega arith) (omega (arith, running_taken c.loop-out.invariant.1)) c.pass-p.ensures.taken_value c.pass-p.ensures.room_after).1 in
+    let l = c.loop-out in
+    let w = (pass_running _ _ l.invariant.1 c.loop-out-test.true l.invariant.0 c.settled-l.ensures.1.few c.up_to_limit-end.ensures c.pass-p.ensures.taken_value c.pass-p.ensures.room_after).1 in
     (w.sane, omega (arith, running_taken w), omega arith)
 
 pub loop-out-preserved : goal.loop-out-preserved
 loop-out-preserved c =
     let g = c.advance-a in
-    let w = (running_pass _ c.up_to_limit-end.result c.loop-out.invariant.1 (omega (arith, c.loop-out.invariant.1.same)) c.loop-out.invariant.0 (omega arith) (omega (arith, running_taken c.loop-out.invariant.1)) c.pass-p.ensures.taken_value c.pass-p.ensures.room_after).1 in
+    let l = c.loop-out in
+    let w = (pass_running _ _ l.invariant.1 c.loop-out-test.true l.invariant.0 c.settled-l.ensures.1.few c.up_to_limit-end.ensures c.pass-p.ensures.taken_value c.pass-p.ensures.room_after).1 in
     (omega arith, running_more w (omega arith) (omega (arith, running_taken w)) (omega (arith, w.same)) g.ensures.room_after g.ensures.stored g.ensures.end_bound)
 
 pub returns : goal.returns
