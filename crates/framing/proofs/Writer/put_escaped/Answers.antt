@@ -1,25 +1,22 @@
--- `framing::Writer::put_escaped` meets its contract: one byte, or two, one behind the other.
+-- `framing::Writer::put_escaped` meets its contract.
 -- Assumes nothing.
-use Rattle.std.proofs.Common.{sym, ap, ◌∙◌, length, arith}
+use Rattle.std.proofs.Common.{sym, ap, ◌∙◌, length, refl, arith, length-set, add-one}
 use Rattle.numbers.specs.Bits.{◌⊕◌}
-use Rattle.numbers.proofs.Storing.{then, stored-length}
-use Rattle.framing.proofs.Escaping.{escaped, plain}
+use Rattle.framing.proofs.Escaping.{escaped, plain, escape_size}
 use Rattle.framing.proofs.Writer.put_escaped.Goals as goal
 
-pub put-requires : goal.put-requires
-put-requires c = omega (arith, ap length (escaped c.args.b (sym c.is_escaped.ensures ∙ c.if-is_escaped.true)))
+pub bounds-self-self : goal.bounds-self-self
+bounds-self-self c = omega (arith, escape_size c.args.b)
 
-pub put-requires-then-is_escaped : goal.put-requires-then-is_escaped
-put-requires-then-is_escaped c = omega (arith, ap length (escaped c.args.b (sym c.is_escaped.ensures ∙ c.if-is_escaped.true)), stored-length c.put.ensures.stored, c.put.ensures.stored.ends)
+pub bounds-self-self-then-is_escaped : goal.bounds-self-self-then-is_escaped
+bounds-self-self-then-is_escaped c = simp length-set (omega (arith, ap length (escaped c.args.b (sym c.is_escaped.ensures ∙ c.if-is_escaped.true))))
 
-pub put-requires-else-is_escaped : goal.put-requires-else-is_escaped
-put-requires-else-is_escaped c = omega (arith, ap length (plain c.args.b (sym c.is_escaped.ensures ∙ c.if-is_escaped.false)))
+pub bounds-self-self-else-is_escaped : goal.bounds-self-self-else-is_escaped
+bounds-self-self-else-is_escaped c = omega (arith, escape_size c.args.b)
 
 pub returns-then-is_escaped-clause-stored : goal.returns-then-is_escaped-clause-stored
 unfolding ◌⊕◌
-returns-then-is_escaped-clause-stored c =
-    rw ((escaped c.args.b (sym c.is_escaped.ensures ∙ c.if-is_escaped.true)))
-    (then c.put.ensures.stored c.put-then-is_escaped.ensures.stored)
+returns-then-is_escaped-clause-stored c = rw ((escaped c.args.b (sym c.is_escaped.ensures ∙ c.if-is_escaped.true))) (record { ends = refl; leaves = rw (add-one c.args.self.now.next) })
 
 pub returns-else-is_escaped-clause-stored : goal.returns-else-is_escaped-clause-stored
-returns-else-is_escaped-clause-stored c = rw ((plain c.args.b (sym c.is_escaped.ensures ∙ c.if-is_escaped.false))) c.put-else-is_escaped.ensures.stored
+returns-else-is_escaped-clause-stored c = rw ((plain c.args.b (sym c.is_escaped.ensures ∙ c.if-is_escaped.false))) (record { ends = refl; leaves = refl })
