@@ -1,5 +1,6 @@
 -- `listing::put_reply` meets its contract, by the answer.
 -- Assumes nothing.
+use Rattle.std.proofs.Common.{rules}
 use native.Mathlib.Omega.{arith}
 use mathlib.Core.Path.{refl, sym}
 use native.Mathlib.Nat.{add-zero}
@@ -15,12 +16,14 @@ read_number-requires c =
 pub put_line-requires : goal.put_line-requires
 put_line-requires c =
     let p = c.requires in
-    (p.0, p.1, (ranged _ _ c.in-Accepted.is p.2).1, omega arith, p.3)
+    let k = ranged _ _ c.in-Accepted.is p.2 in
+    (p.0, p.1, p.3, (search rules, omega arith, tt))
 
 pub put_line-requires-in-Refused : goal.put_line-requires-in-Refused
 put_line-requires-in-Refused c =
     let p = c.requires in
-    (p.0, p.1, omega arith, position_most _ _ _ c.in-Refused.is p.2, p.3)
+    let k = position_most _ _ _ c.in-Refused.is p.2 in
+    (p.0, p.1, p.3, (tt, tt, omega arith))
 
 pub returns-in-None : goal.returns-in-None
 unfolding reply reply_line
