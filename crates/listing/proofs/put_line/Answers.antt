@@ -17,4 +17,4 @@ returns c =
     let v = shown z.len in
     let w = shown z.position in
     let p₄ = field_then u v _ c.put_field-s.ensures.stored (field_then v w [] c.put_field-t.ensures.stored (last_field w c.put_field.ensures.stored)) in
-    let p₂ = field_then (digits z.l.after) a _ c.put_field-q.ensures.stored (field_then a u _ c.put_field-r.ensures.stored p₄) in record { stored = field_then (digits (z.l.lines + 1)) _ _ c.put_field-p.ensures.stored p₂; upper_bound = omega (arith, c.put_field-p.ensures.upper_bound, c.put_field-q.ensures.upper_bound, c.put_field-r.ensures.upper_bound, c.put_field-s.ensures.upper_bound, c.put_field-t.ensures.upper_bound, c.put_field.ensures.upper_bound) }
+    let p₂ = field_then (digits z.l.lister.after) a _ c.put_field-q.ensures.stored (field_then a u _ c.put_field-r.ensures.stored p₄) in record { stored = field_then (digits (z.l.lister.lines + 1)) _ _ c.put_field-p.ensures.stored p₂; upper_bound = omega (arith, c.put_field-p.ensures.upper_bound, c.put_field-q.ensures.upper_bound, c.put_field-r.ensures.upper_bound, c.put_field-s.ensures.upper_bound, c.put_field-t.ensures.upper_bound, c.put_field.ensures.upper_bound) }
