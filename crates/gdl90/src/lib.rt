@@ -31,7 +31,6 @@ use c_structs::{
 };
 use codec::Written;
 use collecting::{Answer, Control, Fed, Phase};
-use framing::Framed;
 use generic_text::TextReading;
 use information_frames::{Added, Found, FrameList};
 use message_types::{
@@ -39,6 +38,7 @@ use message_types::{
 };
 use messages::Kind;
 use recording::Recorded;
+use refusals::Refusal;
 use tallying::Tally;
 use units::{GeometricSteps, InDegrees, PressureSteps, TerrainFeet};
 
@@ -65,16 +65,15 @@ pub fn gdl90_frame(message: &[u8], out: &mut [u8]) -> FrameAnswer
     ensures answer { result ≡ frame_answer (framing message.now (length out.old)) }
     ensures output { out.new ≡ written (framed_output (framing message.now (length out.old)) message.now) out.old }
 {
-    let framed = framing::frame(message, out);
-    frame_answer(framed)
+    frame_answer(framing::frame(message, out))
 }
 
-fn frame_answer(framed: Framed) -> FrameAnswer
+fn frame_answer(framed: Result<usize, Refusal>) -> FrameAnswer
     ensures { result ≡ frame_answer framed }
 {
     match framed {
-        Framed::Bytes(length) => FrameAnswer { number: 0, length },
-        Framed::Refused(number) => FrameAnswer { number, length: 0 },
+        Ok(length) => FrameAnswer { number: 0, length },
+        Err(refusal) => FrameAnswer { number: refusal.number(), length: 0 },
     }
 }
 
