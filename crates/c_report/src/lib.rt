@@ -2,13 +2,15 @@
 #![tactic(auto)]
 
 ghost use Rattle.std.specs.Prelude.{◌≡◌};
-ghost use Rattle.c_report.specs.Flat.{position_from, altitude_from, track_number, track_from, speed_from, climb_from, report_from};
+ghost use Rattle.c_report.specs.Flat.{position_from, altitude_from, track_number, track_from, speed_from, climb_from, report_from, report_answer};
 
 use message_types::{CallSign, Climb, Position, Report, Speed, TrackKind};
+use refusals::Refusal;
 use units::PressureSteps;
 
+// C's struct: a mark stands in front of its field, and a kind is its number.
 #[repr(C)]
-#[derive(Clone, Copy)]
+#[derive(Clone, Copy, Default)]
 pub struct FlatReport {
     pub alert: u8,
     pub address_type: u8,
@@ -34,11 +36,26 @@ pub struct FlatReport {
     pub spare: u8,
 }
 
+// C's struct: the number, and the report, all zero with a refusal.
 #[repr(C)]
 #[derive(Clone, Copy)]
 pub struct FlatReportRead {
     pub number: u8,
     pub report: FlatReport,
+}
+
+impl From<Result<FlatReport, Refusal>> for FlatReportRead {
+    ghost from_gives = { λ read answer. answer ≡ report_answer read };
+
+    fn from(read: Result<FlatReport, Refusal>) -> FlatReportRead {
+        match read {
+            Ok(report) => FlatReportRead { number: 0, report },
+            Err(refusal) => FlatReportRead {
+                number: refusal.number(),
+                report: FlatReport::default(),
+            },
+        }
+    }
 }
 
 // A mark that no field has gives the field a number that writing refuses with 8.

@@ -99,7 +99,7 @@ pub enum Climb {
 
 // As it came, any bytes.
 #[repr(C)]
-#[derive(Clone, Copy, Debug, PartialEq, Eq)]
+#[derive(Clone, Copy, Debug, Default, PartialEq, Eq)]
 pub struct CallSign(
     pub u8,
     pub u8,

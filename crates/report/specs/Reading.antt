@@ -8,7 +8,9 @@ use Rattle.refusals.specs.declared.Refusal.{Refusal}
 use Rattle.report.specs.Marks.{place_of, steps_or, knots_or, climb_or}
 use Rattle.report.specs.Bytes.{report_in}
 use Rattle.message_types.specs.declared.Position.{Position}
+use Rattle.message_types.specs.declared.Ownship.{Ownship}
 use Rattle.message_types.specs.declared.Report.{Report}
+use Rattle.message_types.specs.declared.Traffic.{Traffic}
 use Rattle.c_report.specs.declared.FlatReport.{FlatReport}
 use Rattle.c_report.specs.Flat.{flat_report}
 
@@ -78,6 +80,19 @@ ownship_read = report_read 10
 
 abbrev pub traffic_read : List ℕ → Result FlatReport Refusal
 traffic_read = report_read 20
+
+-- the typed values
+abbrev pub ownship_in : List ℕ → Ownship
+ownship_in m = record { report = report_in m }
+
+abbrev pub read_ownship : List ℕ → Result Ownship Refusal
+read_ownship = reading 10 28 ownship_in (λ x. good_report x.report)
+
+abbrev pub traffic_in : List ℕ → Traffic
+traffic_in m = record { report = report_in m }
+
+abbrev pub read_traffic : List ℕ → Result Traffic Refusal
+read_traffic = reading 20 28 traffic_in (λ x. good_report x.report)
 
 -- an ownship's, or a traffic report's
 abbrev pub is_report_id : ℕ → Bool
