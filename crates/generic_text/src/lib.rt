@@ -7,10 +7,10 @@ ghost use Rattle.characters.specs.Characters.{code_characters, code_of, are_list
 ghost use Rattle.generic_text.specs.Texts.{text_of_codes};
 ghost use Rattle.generic_text.specs.Product.{decode, is_generic_text, hours_in, minutes_in, padding_in, is_fit, text_with, header_of, code_bytes, closed_bytes};
 ghost use Rattle.generic_text.specs.Putting.{codes_left, three_of, PutFours};
-ghost use Rattle.generic_text.specs.Answers.{ReadText, WroteText};
+ghost use Rattle.generic_text.specs.Answers.{text_of, ReadText, WroteText};
 ghost use Rattle.generic_text.specs.Cursor.{Even, codes_from, behind_header, NextCode, no_run, NextRun, NextFour, is_whole, no_four, Fits, or_no_bytes, measured};
 
-use codec::Written;
+use refusals::Refusal;
 
 // The 64 code characters: 0 where a code is no character: the end, 27, the tab (28) and 31.
 const CHARACTERS: [u8; 64] =
@@ -25,18 +25,13 @@ const TAB: u8 = 28;
 // No code has more than six bits.
 const NO_CODE: u8 = 64;
 
+// A text of so many bytes, and what its header carries.
 #[derive(Clone, Copy)]
-pub enum TextReading {
-    // a text of so many bytes, and what its header carries
-    Text {
-        hours: u8,
-        minutes: u8,
-        padding: u8,
-        length: usize,
-    },
-    // the number: 9, lent output too short; 14, fewer than four header bytes; 15, no text's header; 16, a code that is no character, or
-    // a tab with no count; by way of an uplink message also those of its frame
-    Refused(u8),
+pub struct Text {
+    pub hours: u8,
+    pub minutes: u8,
+    pub padding: u8,
+    pub length: usize,
 }
 
 // Where reading stands: the place of the next byte, and the last byte with how many of its low bits are left.
@@ -79,34 +74,35 @@ enum Measured {
     Fault,
 }
 
-// Reads the text of an information frame's data to the start of `out`.
-pub fn read(apdu: &[u8], out: &mut [u8]) -> TextReading
+// Reads the text of an information frame's data to the start of `out`: `NoHeader`, fewer than four header bytes; `NoText`, no text's
+// header; `NoCharacter`, a code that is none, or a tab with no count; `NoRoom`, `out` is too short.
+pub fn read(apdu: &[u8], out: &mut [u8]) -> Result<Text, Refusal>
     ensures { ReadText (decode apdu.now) out.old result out.new }
 {
     if apdu.len() < 4 {
-        return TextReading::Refused(14);
+        return Err(Refusal::NoHeader);
     }
     if !is_generic_text(apdu[0], apdu[1], apdu[2]) {
-        return TextReading::Refused(15);
+        return Err(Refusal::NoText);
     }
     let table = CHARACTERS;
     match measure(&table, apdu, out.len()) {
         Measured::Length(n) => {
             if out.len() < n {
-                return TextReading::Refused(9);
+                return Err(Refusal::NoRoom);
             }
             expand(&table, apdu, out);
-            accepted(apdu[2], apdu[3], n)
+            Ok(accepted(apdu[2], apdu[3], n))
         }
-        Measured::Fault => TextReading::Refused(16),
+        Measured::Fault => Err(Refusal::NoCharacter),
     }
 }
 
 // A text of n bytes, and what the header's last two bytes carry.
-fn accepted(c: u8, d: u8, n: usize) -> TextReading
-    ensures { result ≡ TextReading.Text (hours_in c) (minutes_in c d) (padding_in d) n }
+fn accepted(c: u8, d: u8, n: usize) -> Text
+    ensures { result ≡ text_of (hours_in c) (minutes_in c d) (padding_in d) n }
 {
-    TextReading::Text {
+    Text {
         hours: c / 4 % 32,
         minutes: c % 4 * 16 + d / 16,
         padding: d % 16,
@@ -347,24 +343,25 @@ fn next_code(apdu: &[u8], s: Cursor) -> Next
     }
 }
 
-// Writes a text with its header to the start of `out`.
-pub fn write(hours: u8, minutes: u8, padding: u8, text: &[u8], out: &mut [u8]) -> Written
+// Writes a text with its header to the start of `out`: `BadField`, a header field too wide; `NoCharacter`, one that the list lacks;
+// `NoRoom`, `out` is too short.
+pub fn write(hours: u8, minutes: u8, padding: u8, text: &[u8], out: &mut [u8]) -> Result<usize, Refusal>
     ensures { WroteText (text_with hours minutes padding text.now) out.old result out.new }
 {
     if !is_fit(hours, minutes, padding) {
-        return Written::Refused(8);
+        return Err(Refusal::BadField);
     }
     if !characters::are_listed(text) {
-        return Written::Refused(16);
+        return Err(Refusal::NoCharacter);
     }
     // four of six bits are three bytes
     let codes = text.len() + 1;
     if out.len() < 4 + (codes - codes / 4) {
-        return Written::Refused(9);
+        return Err(Refusal::NoRoom);
     }
     put_header(out, hours, minutes, padding);
     let at = put_fours(out, text);
-    Written::Bytes(put_last(out, at, text))
+    Ok(put_last(out, at, text))
 }
 
 // Each field of the header fits its bits.
