@@ -65,24 +65,18 @@ impl HeightAboveTerrain {
 
 // In steps of 180/2^23 degrees, north and east positive.
 #[derive(Clone, Copy, Debug, PartialEq, Eq)]
-pub enum Position {
-    At { latitude: i32, longitude: i32 },
-    None,
+pub struct Position {
+    pub latitude: i32,
+    pub longitude: i32,
 }
 
-#[derive(Clone, Copy, Debug, PartialEq, Eq)]
-pub enum Altitude {
-    Known(PressureSteps),
-    None,
-}
-
-// 001 Table 9: what the track is.
+// 001 Table 9: what the track is, with its number.
 #[derive(Clone, Copy, Debug, PartialEq, Eq)]
 pub enum TrackKind {
-    NotValid,
-    TrueTrack,
-    MagneticHeading,
-    TrueHeading,
+    NotValid = 0,
+    TrueTrack = 1,
+    MagneticHeading = 2,
+    TrueHeading = 3,
 }
 
 #[derive(Clone, Copy, Debug, PartialEq, Eq)]
@@ -105,7 +99,7 @@ pub enum Climb {
 
 // As it came, any bytes.
 #[repr(C)]
-#[derive(Clone, Copy, Debug, PartialEq, Eq)]
+#[derive(Clone, Copy, Debug, Default, PartialEq, Eq)]
 pub struct CallSign(
     pub u8,
     pub u8,
@@ -123,8 +117,8 @@ pub struct Report {
     pub alert: u8,
     pub address_type: u8,
     pub address: u32,
-    pub position: Position,
-    pub altitude: Altitude,
+    pub position: Option<Position>,
+    pub altitude: Option<PressureSteps>,
     pub track_kind: TrackKind,
     pub extrapolated: bool,
     pub airborne: bool,
