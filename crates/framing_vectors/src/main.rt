@@ -6,7 +6,6 @@
 
 ghost use Rattle.std.specs.Prelude.{◌≤◌};
 
-use framing::Framed;
 use printing::{Hex, Records};
 
 fn print_answer(rt: &impl Print, number: u8, size: usize, out: &[u8]) {
@@ -17,8 +16,8 @@ fn print_answer(rt: &impl Print, number: u8, size: usize, out: &[u8]) {
 
 fn frame_message(rt: &impl Print, message: &[u8], out: &mut [u8]) {
     match framing::frame(message, out) {
-        Framed::Bytes(n) => print_answer(rt, 0, n, out),
-        Framed::Refused(k) => print_answer(rt, k, 0, out),
+        Ok(n) => print_answer(rt, 0, n, out),
+        Err(refusal) => print_answer(rt, refusal.number(), 0, out),
     }
 }
 

@@ -11,38 +11,38 @@
 // fails is passed over.
 #![tactic(auto)]
 
-use generic_text::TextReading;
-use information_frames::{Added, Found, FrameList};
+use information_frames::{Frame, FrameList};
 use printing::{Hex, Records};
+use refusals::Refusal;
 
-// The number of an answer that has no more to print, behind a blank.
-fn print_number(rt: &impl Print, number: u8) {
-    let _ = print!(rt; " {number}");
+// The number, behind a blank.
+fn print_refusal(rt: &impl Print, refusal: Refusal) {
+    let _ = print!(rt; " {}", refusal.number());
 }
 
-fn print_frame(rt: &impl Print, found: Found, data: &[u8]) {
+fn print_frame(rt: &impl Print, found: Result<Frame, Refusal>, data: &[u8]) {
     match found {
-        Found::Frame(f) => {
+        Ok(f) => {
             let product = Hex(&data[..data.len().min(2)]);
             let _ = print!(rt; " {} {} {} {product}", f.kind, f.reserved, f.length);
         }
-        Found::Refused(k) => print_number(rt, k),
+        Err(refusal) => print_refusal(rt, refusal),
     }
 }
 
 // A list, and what each of its numbers and the one behind the last is answered.
-fn print_list<F: Fn(usize)>(rt: &impl Print, list: FrameList, print_nth: F)
+fn print_list<F: Fn(usize)>(rt: &impl Print, list: Result<FrameList, Refusal>, print_nth: F)
     requires { F.IsAlwaysCallable print_nth }
 {
     let _ = print!(rt; "list");
     match list {
-        FrameList::Frames { count, end } => {
+        Ok(FrameList { count, end }) => {
             let _ = print!(rt; " 0 {count} {end}");
             for n in 0..=count {
                 print_nth(n);
             }
         }
-        FrameList::Refused(k) => print_number(rt, k),
+        Err(refusal) => print_refusal(rt, refusal),
     }
     let _ = println!(rt; "");
 }
@@ -72,23 +72,19 @@ fn print_message(rt: &impl Print, message: &[u8]) {
 fn print_text(rt: &impl Print, message: &[u8], n: usize) {
     let mut out = [0u8; 1024];
     match uplink_text::read(message, n, &mut out) {
-        TextReading::Text {
-            hours,
-            minutes,
-            padding,
-            length,
-        } => {
+        Ok(text) => {
             let sequence = fcs::check_sequence(&out);
-            let _ = print!(rt; " 0 {hours} {minutes} {padding} {length} {sequence:04x}");
+            let _ = print!(rt; " 0 {} {} {}", text.hours, text.minutes, text.padding);
+            let _ = print!(rt; " {} {sequence:04x}", text.length);
         }
-        TextReading::Refused(k) => print_number(rt, k),
+        Err(refusal) => print_refusal(rt, refusal),
     }
 }
 
 fn print_added(rt: &impl Print, payload: &mut [u8; 432], kind: u8, bytes: &[u8]) {
     let number = match information_frames::add(payload, kind, bytes) {
-        Added::Done => 0,
-        Added::Refused(k) => k,
+        Ok(()) => 0,
+        Err(refusal) => refusal.number(),
     };
     let sequence = fcs::check_sequence(payload);
     let _ = println!(rt; "add {number} {sequence:04x}");
