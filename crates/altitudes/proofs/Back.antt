@@ -13,22 +13,22 @@ use Rattle.numbers.proofs.Bytes.{byte_at, spread}
 use Rattle.numbers.proofs.Every.{both, chosen}
 use Rattle.numbers.proofs.Signed.{field_signed, signed_field}
 use Rattle.codec.proofs.Outcomes.{never_8}
-use Rattle.message_types.specs.declared.Height.{Height}
-use Rattle.message_types.specs.declared.Height.TheVariants.{Feet, None}
+use Rattle.std.specs.Prelude.{Option, Some, None}
+use Rattle.units.specs.declared.TerrainFeet.{TerrainFeet}
 use Rattle.message_types.specs.declared.HeightAboveTerrain.{HeightAboveTerrain}
 use Rattle.message_types.specs.declared.Merit.{Merit}
 use Rattle.message_types.specs.declared.Merit.TheVariants.{Metres, Over, None as no-merit}
-use Rattle.altitudes.specs.Height.{height_of, height_field, good_height, good_terrain, terrain_in, terrain_bytes, height_refused}
-use Rattle.altitudes.specs.Geometric.{over_merit, merit_of, merit_field, good_merit, good_geometric, geometric_in, geometric_bytes, geometric_refused}
+use Rattle.altitudes.specs.Height.{height_of, height_field, good_height, good_terrain, terrain_in, terrain_bytes}
+use Rattle.altitudes.specs.Geometric.{over_merit, merit_of, merit_field, good_merit, good_geometric, geometric_in, geometric_bytes}
 use Rattle.altitudes.specs.Claims.{TypedHeight, TerrainWrittenRead, TerrainReadWritten, GeometricWrittenRead, GeometricReadWritten, NeverOutside}
 
 -- 16 bits as two bytes, high byte first
 joined : (n : ℕ) → 256 * (n / 256) + n % 256 ≡ n
 joined n = omega arith
 
-height_back : (h : Height) → TypedHeight h → good_height h ≡ true → height_of (height_field h) ≡ h
+height_back : (h : Option TerrainFeet) → TypedHeight h → good_height h ≡ true → height_of (height_field h) ≡ h
 unfolding height_of
-height_back (Feet f) t g =
+height_back (Some f) t g =
     let plain : eqb (field_of 0x8000 f.feet) 0x8000 ≡ false = not-true _ g in
     simp (plain, signed_field 0x8000 f.feet t)
 height_back None t g = refl
@@ -40,7 +40,7 @@ height_there n h = chosen (λ x. height_field x ≡ n) n 0x8000 _ _ sym (field_s
 pub terrain_written_read : TerrainWrittenRead
 unfolding terrain_in terrain_bytes
 terrain_written_read h t g =
-    ap {B = HeightAboveTerrain} (λ (x : Height). record { height = x }) (ap height_of (joined (height_field h.height)) ∙ height_back h.height t g)
+    ap {B = HeightAboveTerrain} (λ (x : Option TerrainFeet). record { height = x }) (ap height_of (joined (height_field h.height)) ∙ height_back h.height t g)
 
 pub terrain_read_written : TerrainReadWritten
 unfolding terrain_in terrain_bytes
@@ -112,7 +112,7 @@ height_good : (n : ℕ) → n < 0x10000 → good_height (height_of n) ≡ true
 unfolding height_of
 height_good n h = go (eqb n 0x8000) refl
   where
-    go : (t : Bool) → eqb n 0x8000 ≡ t → good_height (cond t None (Feet (record { feet = signed_in 0x8000 n }))) ≡ true
+    go : (t : Bool) → eqb n 0x8000 ≡ t → good_height (cond t None (Some (record { feet = signed_in 0x8000 n }))) ≡ true
     go true e = refl
     go false e = simp (field_signed 0x8000 n (omega arith), e)
 
@@ -131,7 +131,5 @@ never_outside m bytes =
     let b : (i : ℕ) → get_or m i 0 < 256 = λ i. byte_at m i bytes in
     let b1 = b 1 in
     let b2 = b 2 in
-    let b4 = b 4 in (
-      never_8 9 3 terrain_in good_terrain (λ x. record { number = 0; height = x }) height_refused m (λ r. r.number) (λ k. refl) (λ x. refl) (height_good _ (omega arith)),
-      never_8 11 5 geometric_in good_geometric (λ x. record { number = 0; geometric = x }) geometric_refused m (λ r. r.number) (λ k. refl) (λ x. refl) (merit_good _ (omega arith)),
-    )
+    let b4 = b 4 in
+    (never_8 9 3 terrain_in good_terrain m (height_good _ (omega arith)), never_8 11 5 geometric_in good_geometric m (merit_good _ (omega arith)))

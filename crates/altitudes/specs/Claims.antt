@@ -1,19 +1,18 @@
 -- What is written and read is the same value, and what is read and written the same bytes (RULES 'Height above terrain', 'Geometric altitude').
 -- Assumes nothing.
-use Rattle.std.specs.Prelude.{◌≡◌, ℕ, ◌<◌, true, List, length, get_or}
+use Rattle.std.specs.Prelude.{◌≡◌, ℕ, ◌<◌, true, List, length, get_or, Option, Some, None}
 use Rattle.std.specs.Int.Signed.{mag}
 use Rattle.numbers.specs.Bytes.{AreBytes}
-use Rattle.codec.specs.Reading.{misfit}
-use Rattle.message_types.specs.declared.Height.{Height}
-use Rattle.message_types.specs.declared.Height.TheVariants.{Feet, None}
+use Rattle.codec.specs.Reading.{fit, held}
+use Rattle.units.specs.declared.TerrainFeet.{TerrainFeet}
 use Rattle.message_types.specs.declared.HeightAboveTerrain.{HeightAboveTerrain}
 use Rattle.message_types.specs.declared.GeometricAltitude.{GeometricAltitude}
-use Rattle.altitudes.specs.Height.{good_terrain, terrain_in, terrain_bytes, height_read}
-use Rattle.altitudes.specs.Geometric.{good_geometric, geometric_in, geometric_bytes, geometric_read}
+use Rattle.altitudes.specs.Height.{good_terrain, terrain_in, terrain_bytes, read_height}
+use Rattle.altitudes.specs.Geometric.{good_geometric, geometric_in, geometric_bytes, read_geometric}
 
 -- the feet are of their 16-bit type
-abbrev pub TypedHeight : Height → Type 0
-TypedHeight (Feet h) = mag h.feet < 0x8000
+abbrev pub TypedHeight : Option TerrainFeet → Type 0
+TypedHeight (Some h) = mag h.feet < 0x8000
 TypedHeight None = Unit {0}
 
 abbrev pub TerrainWrittenRead : Type 0
@@ -24,7 +23,9 @@ TerrainReadWritten = (m : List ℕ) → length m ≡ 3 → AreBytes m → get_or
 
 -- 8 is never given: every value of the bits is in range
 abbrev pub NeverOutside : Type 0
-NeverOutside = (m : List ℕ) → AreBytes m → ((height_read m).number ≡ misfit 9 3 m) × ((geometric_read m).number ≡ misfit 11 5 m)
+NeverOutside =
+    (m : List ℕ) → AreBytes m
+    → (read_height m ≡ held terrain_in (λ _. true) (fit 9 3 m)) × (read_geometric m ≡ held geometric_in (λ _. true) (fit 11 5 m))
 
 -- the steps are of their 16-bit type
 abbrev pub GeometricWrittenRead : Type 0

@@ -1,16 +1,13 @@
 -- Ownship geometric altitude (001 §3.8, RULES 'Geometric altitude'), id 11, five bytes: signed steps of 5 feet, high byte first; then a
 -- warning in bit 15 and a figure of merit in metres in the other 15 bits; 0x7FFF is none.
 -- Assumes nothing.
-use Rattle.std.specs.Prelude.{ℕ, ◌+◌, ◌*◌, ◌/◌, ◌%◌, Bool, true, false, cond, not, ◌&&◌, List, [], ◌∷◌, eqb, ltb, leb, pos, get_or}
+use Rattle.std.specs.Prelude.{ℕ, ◌+◌, ◌*◌, ◌/◌, ◌%◌, Bool, true, cond, not, ◌&&◌, List, [], ◌∷◌, eqb, ltb, leb, get_or, Result}
 use Rattle.numbers.specs.Signed.{signed_in, field_of}
+use Rattle.refusals.specs.declared.Refusal.{Refusal}
 use Rattle.codec.specs.Reading.{reading}
 use Rattle.message_types.specs.declared.Merit.{Merit}
 use Rattle.message_types.specs.declared.Merit.TheVariants.{Metres, Over, None}
 use Rattle.message_types.specs.declared.GeometricAltitude.{GeometricAltitude}
-use Rattle.message_types.specs.declared.GeometricRead.{GeometricRead}
-use Rattle.message_types.specs.declared.Message.TheVariants as kind
-use Rattle.message_types.specs.declared.Reading.{Reading}
-use Rattle.message_types.specs.declared.Reading.TheVariants.{Message, Refused}
 
 -- the mark of a merit over 32,766 metres
 abbrev pub over_merit : ℕ
@@ -49,14 +46,5 @@ geometric_bytes g =
 abbrev pub good_geometric : GeometricAltitude → Bool
 good_geometric g = good_merit g.merit
 
-abbrev pub geometric_refused : ℕ → GeometricRead
-geometric_refused k = record {
-  number = k;
-  geometric = record { altitude = record { steps = pos 0 }; warning = false; merit = Metres 0 };
-}
-
-abbrev pub geometric_read : List ℕ → GeometricRead
-geometric_read = reading 11 5 geometric_in good_geometric (λ x. record { number = 0; geometric = x }) geometric_refused
-
-abbrev pub read_geometric : List ℕ → Reading
-read_geometric = reading 11 5 geometric_in good_geometric (λ x. Message (kind.Geometric x)) Refused
+abbrev pub read_geometric : List ℕ → Result GeometricAltitude Refusal
+read_geometric = reading 11 5 geometric_in good_geometric

@@ -1,10 +1,9 @@
 -- A report's fields, there and back.
 -- Assumes nothing.
 use mathlib.Core.Path.{◌≡◌, refl}
+use Rattle.std.specs.Prelude.{Option, Some, None}
+use Rattle.units.specs.declared.PressureSteps.{PressureSteps}
 use Rattle.message_types.specs.declared.Position.{Position}
-use Rattle.message_types.specs.declared.Position.TheVariants as position
-use Rattle.message_types.specs.declared.Altitude.{Altitude}
-use Rattle.message_types.specs.declared.Altitude.TheVariants as altitude
 use Rattle.message_types.specs.declared.TrackKind.{TrackKind}
 use Rattle.message_types.specs.declared.TrackKind.TheVariants as track
 use Rattle.message_types.specs.declared.Speed.{Speed}
@@ -15,15 +14,15 @@ use Rattle.c_report.specs.Flat.{position_mark, latitude_of, longitude_of, positi
 use Rattle.c_report.specs.Flat.{altitude_mark, altitude_steps, altitude_from, track_number, track_from, speed_mark, speed_knots, speed_from, climb_mark, climb_steps, climb_from}
 use Rattle.c_report.specs.Claims.{ReportThereAndBack}
 
-positions : (x : Position) → position_from (position_mark x) (latitude_of x) (longitude_of x) ≡ x
+positions : (x : Option Position) → position_from (position_mark x) (latitude_of x) (longitude_of x) ≡ x
 unfolding position_from
-positions (position.At a o) = refl
-positions position.None = refl
+positions (Some p) = refl
+positions None = refl
 
-altitudes : (x : Altitude) → altitude_from (altitude_mark x) (altitude_steps x) ≡ x
+altitudes : (x : Option PressureSteps) → altitude_from (altitude_mark x) (altitude_steps x) ≡ x
 unfolding altitude_from
-altitudes (altitude.Known p) = refl
-altitudes altitude.None = refl
+altitudes (Some d) = refl
+altitudes None = refl
 
 pub tracks : (x : TrackKind) → track_from (track_number x) ≡ x
 unfolding track_from

@@ -2,12 +2,9 @@
 -- number; 1, none; 2, over (of a climb, above); 3, below. With a mark the field is 0, and it is not looked at on the way back. Any other
 -- number is no mark: the way back then gives the field a number that writing refuses with 8.
 -- Assumes nothing.
-use Rattle.std.specs.Prelude.{ℕ, cond, eqb, ℤ, pos}
+use Rattle.std.specs.Prelude.{ℕ, cond, false, eqb, ℤ, pos, Option, Some, None, Result, Ok, Err}
 use Rattle.units.specs.declared.PressureSteps.{PressureSteps}
 use Rattle.message_types.specs.declared.Position.{Position}
-use Rattle.message_types.specs.declared.Position.TheVariants as position
-use Rattle.message_types.specs.declared.Altitude.{Altitude}
-use Rattle.message_types.specs.declared.Altitude.TheVariants as altitude
 use Rattle.message_types.specs.declared.TrackKind.{TrackKind}
 use Rattle.message_types.specs.declared.TrackKind.TheVariants as track
 use Rattle.message_types.specs.declared.Speed.{Speed}
@@ -15,34 +12,38 @@ use Rattle.message_types.specs.declared.Speed.TheVariants as speed
 use Rattle.message_types.specs.declared.Climb.{Climb}
 use Rattle.message_types.specs.declared.Climb.TheVariants as climb
 use Rattle.message_types.specs.declared.Report.{Report}
+use Rattle.refusals.specs.declared.Refusal.{Refusal}
+use Rattle.refusals.specs.Numbers.{refusal_number}
 use Rattle.c_report.specs.declared.FlatReport.{FlatReport}
+use Rattle.c_report.specs.declared.FlatReportRead.{FlatReportRead}
 
-abbrev pub position_mark : Position → ℕ
-position_mark (position.At a o) = 0
-position_mark position.None = 1
+abbrev pub position_mark : Option Position → ℕ
+position_mark (Some p) = 0
+position_mark None = 1
 
-abbrev pub latitude_of : Position → ℤ
-latitude_of (position.At a o) = a
-latitude_of position.None = pos 0
+abbrev pub latitude_of : Option Position → ℤ
+latitude_of (Some p) = p.latitude
+latitude_of None = pos 0
 
-abbrev pub longitude_of : Position → ℤ
-longitude_of (position.At a o) = o
-longitude_of position.None = pos 0
+abbrev pub longitude_of : Option Position → ℤ
+longitude_of (Some p) = p.longitude
+longitude_of None = pos 0
 
-unfoldable pub position_from : ℕ → ℤ → ℤ → Position
-position_from mark a o = cond (eqb mark 0) (position.At a o) (cond (eqb mark 1) position.None (position.At (pos 4194305) (pos 0)))
+unfoldable pub position_from : ℕ → ℤ → ℤ → Option Position
+position_from mark a o =
+    cond (eqb mark 0) (Some (record { latitude = a; longitude = o }))
+    (cond (eqb mark 1) None (Some (record { latitude = pos 4194305; longitude = pos 0 })))
 
-abbrev pub altitude_mark : Altitude → ℕ
-altitude_mark (altitude.Known p) = 0
-altitude_mark altitude.None = 1
+abbrev pub altitude_mark : Option PressureSteps → ℕ
+altitude_mark (Some d) = 0
+altitude_mark None = 1
 
-abbrev pub altitude_steps : Altitude → PressureSteps
-altitude_steps (altitude.Known d) = d
-altitude_steps altitude.None = record { steps = 0 }
+abbrev pub altitude_steps : Option PressureSteps → PressureSteps
+altitude_steps (Some d) = d
+altitude_steps None = record { steps = 0 }
 
-unfoldable pub altitude_from : ℕ → PressureSteps → Altitude
-altitude_from mark d =
-    cond (eqb mark 0) (altitude.Known d) (cond (eqb mark 1) altitude.None (altitude.Known (record { steps = 0xFFF })))
+unfoldable pub altitude_from : ℕ → PressureSteps → Option PressureSteps
+altitude_from mark d = cond (eqb mark 0) (Some d) (cond (eqb mark 1) None (Some (record { steps = 0xFFF })))
 
 -- 001 Table 9
 abbrev pub track_number : TrackKind → ℕ
@@ -132,3 +133,34 @@ report_from f = record {
   priority = f.priority;
   spare = f.spare;
 }
+
+abbrev pub zero_report : FlatReport
+zero_report = record {
+  alert = 0;
+  address_type = 0;
+  address = 0;
+  position_mark = 0;
+  latitude = pos 0;
+  longitude = pos 0;
+  altitude_mark = 0;
+  altitude = record { steps = 0 };
+  track_kind = 0;
+  extrapolated = false;
+  airborne = false;
+  integrity = 0;
+  accuracy = 0;
+  speed_mark = 0;
+  speed = 0;
+  climb_mark = 0;
+  climb = pos 0;
+  track = 0;
+  emitter = 0;
+  call_sign = record { 0 = 0; 1 = 0; 2 = 0; 3 = 0; 4 = 0; 5 = 0; 6 = 0; 7 = 0 };
+  priority = 0;
+  spare = 0;
+}
+
+-- the number and the report, which is all zero with a refusal
+abbrev pub report_answer : Result FlatReport Refusal → FlatReportRead
+report_answer (Ok report) = record { number = 0; report = report }
+report_answer (Err refusal) = record { number = refusal_number refusal; report = zero_report }

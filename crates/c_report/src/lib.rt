@@ -2,13 +2,15 @@
 #![tactic(auto)]
 
 ghost use Rattle.std.specs.Prelude.{◌≡◌};
-ghost use Rattle.c_report.specs.Flat.{position_from, altitude_from, track_number, track_from, speed_from, climb_from, report_from};
+ghost use Rattle.c_report.specs.Flat.{position_from, altitude_from, track_number, track_from, speed_from, climb_from, report_from, report_answer};
 
-use message_types::{Altitude, CallSign, Climb, Position, Report, Speed, TrackKind};
+use message_types::{CallSign, Climb, Position, Report, Speed, TrackKind};
+use refusals::Refusal;
 use units::PressureSteps;
 
+// C's struct: a mark stands in front of its field, and a kind is its number.
 #[repr(C)]
-#[derive(Clone, Copy)]
+#[derive(Clone, Copy, Default)]
 pub struct FlatReport {
     pub alert: u8,
     pub address_type: u8,
@@ -34,6 +36,7 @@ pub struct FlatReport {
     pub spare: u8,
 }
 
+// C's struct: the number, and the report, all zero with a refusal.
 #[repr(C)]
 #[derive(Clone, Copy)]
 pub struct FlatReportRead {
@@ -41,93 +44,90 @@ pub struct FlatReportRead {
     pub report: FlatReport,
 }
 
-fn position_from(mark: u8, latitude: i32, longitude: i32) -> Position
-    ensures { result ≡ position_from mark latitude longitude }
-{
-    if mark == 0 {
-        return Position::At {
-            latitude,
-            longitude,
-        };
-    }
-    if mark == 1 {
-        return Position::None;
-    }
-    Position::At {
-        latitude: 4194305,
-        longitude: 0,
+impl From<Result<FlatReport, Refusal>> for FlatReportRead {
+    ghost from_gives = { λ read answer. answer ≡ report_answer read };
+
+    fn from(read: Result<FlatReport, Refusal>) -> FlatReportRead {
+        match read {
+            Ok(report) => FlatReportRead { number: 0, report },
+            Err(refusal) => FlatReportRead {
+                number: refusal.number(),
+                report: FlatReport::default(),
+            },
+        }
     }
 }
 
-fn altitude_from(mark: u8, steps: PressureSteps) -> Altitude
+// A mark that no field has gives the field a number that writing refuses with 8.
+#[tactic(auto, unfolding(crate::specs::Flat::position_from))]
+fn position_from(mark: u8, latitude: i32, longitude: i32) -> Option<Position>
+    ensures { result ≡ position_from mark latitude longitude }
+{
+    match mark {
+        0 => Some(Position {
+            latitude,
+            longitude,
+        }),
+        1 => None,
+        _ => Some(Position {
+            latitude: 4194305,
+            longitude: 0,
+        }),
+    }
+}
+
+#[tactic(auto, unfolding(crate::specs::Flat::altitude_from))]
+fn altitude_from(mark: u8, steps: PressureSteps) -> Option<PressureSteps>
     ensures { result ≡ altitude_from mark steps }
 {
-    if mark == 0 {
-        return Altitude::Known(steps);
+    match mark {
+        0 => Some(steps),
+        1 => None,
+        _ => Some(PressureSteps { steps: 0xFFF }),
     }
-    if mark == 1 {
-        return Altitude::None;
-    }
-    Altitude::Known(PressureSteps { steps: 0xFFF })
 }
 
 pub fn track_number(kind: TrackKind) -> u8
     ensures { result ≡ track_number kind }
 {
-    match kind {
-        TrackKind::NotValid => 0,
-        TrackKind::TrueTrack => 1,
-        TrackKind::MagneticHeading => 2,
-        TrackKind::TrueHeading => 3,
-    }
+    kind as u8
 }
 
+#[tactic(auto, unfolding(crate::specs::Flat::track_from))]
 pub fn track_from(number: u8) -> TrackKind
     ensures { result ≡ track_from number }
 {
-    if number == 0 {
-        return TrackKind::NotValid;
+    match number {
+        0 => TrackKind::NotValid,
+        1 => TrackKind::TrueTrack,
+        2 => TrackKind::MagneticHeading,
+        _ => TrackKind::TrueHeading,
     }
-    if number == 1 {
-        return TrackKind::TrueTrack;
-    }
-    if number == 2 {
-        return TrackKind::MagneticHeading;
-    }
-    TrackKind::TrueHeading
 }
 
+#[tactic(auto, unfolding(crate::specs::Flat::speed_from))]
 fn speed_from(mark: u8, knots: u16) -> Speed
     ensures { result ≡ speed_from mark knots }
 {
-    if mark == 0 {
-        return Speed::Knots(knots);
+    match mark {
+        0 => Speed::Knots(knots),
+        1 => Speed::None,
+        2 => Speed::Over,
+        _ => Speed::Knots(0xFFF),
     }
-    if mark == 1 {
-        return Speed::None;
-    }
-    if mark == 2 {
-        return Speed::Over;
-    }
-    Speed::Knots(0xFFF)
 }
 
+#[tactic(auto, unfolding(crate::specs::Flat::climb_from))]
 fn climb_from(mark: u8, steps: i32) -> Climb
     ensures { result ≡ climb_from mark steps }
 {
-    if mark == 0 {
-        return Climb::Steps(steps);
+    match mark {
+        0 => Climb::Steps(steps),
+        1 => Climb::None,
+        2 => Climb::Above,
+        3 => Climb::Below,
+        _ => Climb::Steps(510),
     }
-    if mark == 1 {
-        return Climb::None;
-    }
-    if mark == 2 {
-        return Climb::Above;
-    }
-    if mark == 3 {
-        return Climb::Below;
-    }
-    Climb::Steps(510)
 }
 
 pub fn report_from(flat: FlatReport) -> Report

@@ -1,143 +1,97 @@
 -- The ways a write and a reading end, for every kind.
 -- Assumes nothing.
-use mathlib.Core.Path.{◌≡◌, refl, sym, ap, ◌∙◌, subst₂}
+use mathlib.Core.Path.{◌≡◌, refl, sym, ap, ◌∙◌, subst, subst₂}
 use mathlib.Core.Bool.{Bool, true, false, cond}
-use Prim.Native.Nat.{ℕ, ◌+◌, ◌≤◌, ◌<◌}
-use mathlib.Core.List.{List}
-use native.Mathlib.Omega.{arith}
-use native.Mathlib.Numerals.{add-one}
+use Prim.Native.Nat.{ℕ, ◌≤◌, ◌<◌}
+use mathlib.Core.List.{List, ◌++◌}
 use lib.Dec.{eqb}
-use lib.ListN.{length, drop, get_or, set, drop_of_length-le}
-use lib.Seq.{sets, drop-cons}
-use borrow.Author.Tests.{eqb-true, eqb-false, ne_eqb, le-leb, lt-leb}
+use lib.ListN.{length, drop, get_or}
+use borrow.Author.Tests.{eqb-true, ne_eqb, le-leb, lt-leb}
+use Rattle.std.specs.Prelude.{Result, Ok, Err}
 use Rattle.numbers.specs.Lent.{written}
-use Rattle.numbers.proofs.Storing.{from_first}
-use Rattle.codec.specs.declared.Written.{Written}
-use Rattle.codec.specs.declared.Written.TheVariants.{Bytes, Refused}
-use Rattle.codec.specs.Reading.{misfit, reading}
+use Rattle.refusals.specs.declared.Refusal.{Refusal}
+use Rattle.refusals.specs.declared.Refusal.TheVariants.{OtherId, WrongLength, BadField, NoRoom}
+use Rattle.codec.specs.Reading.{fit, held, reading}
 use Rattle.codec.specs.Writing.{writing, Wrote}
 
-pub no_room : (bytes out : List ℕ) → length out < length bytes → Wrote true bytes out (Refused 9) out
+pub no_room : (bytes out : List ℕ) → length out < length bytes → Wrote true bytes out (Err NoRoom) out
 unfolding writing written
 no_room bytes out h = record { answers = simp (lt-leb (length bytes) (length out) h); leaves = refl }
 
--- one byte more stored of those that are left
-pub stored : (bytes left : List ℕ) (i : ℕ) → i < length bytes → sets (set left i (get_or bytes i 0)) (i + 1) (drop (i + 1) bytes) ≡ sets left i (drop i bytes)
-stored bytes left i h = simp add-one (ap (sets left i) (sym (drop-cons bytes i 0 h)))
-
-pub all_stored : (bytes out left : List ℕ) (i : ℕ) → length bytes ≤ length out → i ≡ length bytes → sets left i (drop i bytes) ≡ sets out 0 bytes → Wrote true bytes out (Bytes i) left
-unfolding writing
-all_stored bytes out left i h e s = record {
-  answers = ap Bytes e ∙ simp (le-leb (length bytes) (length out) h);
-  leaves = sym (ap (sets left i) (ap (λ (n : ℕ). drop n bytes) e ∙ drop_of_length-le bytes (≤_self (length bytes)))) ∙ s ∙ from_first bytes out h;
-}
-  where
-    ≤_self : (n : ℕ) → n ≤ n
-    ≤_self n = omega arith
+pub stored : (bytes out first : List ℕ) → length bytes ≤ length out → first ≡ bytes → Wrote true bytes out (Ok (length bytes)) (first ++ drop (length bytes) out)
+unfolding writing written
+stored bytes out first h e = record { answers = simp (le-leb (length bytes) (length out) h); leaves = ap (λ (l : List ℕ). l ++ drop (length bytes) out) e }
 
 -- a good value's bytes, put
-pub wrote : {good : Bool} {bytes b out left : List ℕ} {r : Written} → good ≡ true → b ≡ bytes → Wrote true b out r left → Wrote good bytes out r left
+pub wrote : {good : Bool} {bytes b out left : List ℕ} {r : Result ℕ Refusal} → good ≡ true → b ≡ bytes → Wrote true b out r left → Wrote good bytes out r left
 wrote {out = out} {left = left} {r = r} g e w = subst₂ (λ (x : Bool) (l : List ℕ). Wrote x l out r left) (sym g) e w
 
-pub refused : (good : Bool) (bytes out : List ℕ) → good ≡ false → Wrote good bytes out (Refused 8) out
+pub refused : (good : Bool) (bytes out : List ℕ) → good ≡ false → Wrote good bytes out (Err BadField) out
 unfolding writing written
 refused good bytes out g = record { answers = simp g; leaves = refl }
 
--- what is no misfit has the id and the length
-pub fits : (id size : ℕ) (m : List ℕ) → misfit id size m ≡ 0 → (get_or m 0 0 ≡ id) × (length m ≡ size)
-unfolding misfit
-fits id size m = go (eqb (length m) 0) (eqb (get_or m 0 0) id) refl (eqb (length m) size) refl
+-- what fits is the message, with the id and the length
+pub fits : (id size : ℕ) (m : List ℕ) {x : List ℕ} → fit id size m ≡ Ok x → (get_or m 0 0 ≡ id) × (length m ≡ size) × (m ≡ x)
+unfolding fit
+fits id size m {x} = go (eqb (length m) 0) (eqb (get_or m 0 0) id) refl (eqb (length m) size) refl
   where
-    go : (s t : Bool) → eqb (get_or m 0 0) id ≡ t → (u : Bool) → eqb (length m) size ≡ u → ◌≡◌ {A = ℕ} (cond s 6 (cond t (cond u 0 7) 6)) 0
-        → (get_or m 0 0 ≡ id) × (length m ≡ size)
-    go false true e true f z = (eqb-true _ _ e, eqb-true _ _ f)
-    go true t e u f z = absurd (omega arith)
-    go false false e u f z = absurd (omega arith)
-    go false true e false f z = absurd (omega arith)
+    go : (s t : Bool) → eqb (get_or m 0 0) id ≡ t → (u : Bool) → eqb (length m) size ≡ u
+        → cond {A = Result (List ℕ) Refusal} s (Err OtherId) (cond t (cond u (Ok m) (Err WrongLength)) (Err OtherId)) ≡ Ok x
+        → (get_or m 0 0 ≡ id) × (length m ≡ size) × (m ≡ x)
+    go false true e true f z = (eqb-true _ _ e, eqb-true _ _ f, cc)
+    go true t e u f z = absurd cc
+    go false false e u f z = absurd cc
+    go false true e false f z = absurd cc
 
-module _ {X R : Type 0} (id size : ℕ) (value : List ℕ → X) (good : X → Bool) (accepted : X → R) (refusal : ℕ → R) (m : List ℕ) where
+module _ {X : Type 0} (id size : ℕ) (value : List ℕ → X) (good : X → Bool) (m : List ℕ) where
+  -- a reading is the message, held, or one of three refusals
+  pub each_answer : (Q : Result X Refusal → Type 0) → ((x : X) → Q (Ok x)) → Q (Err OtherId) → Q (Err WrongLength) → Q (Err BadField)
+      → Q (reading id size value good m)
+  unfolding fit reading
+  each_answer Q a no_kind no_length no_range = go (eqb (length m) 0) (eqb (get_or m 0 0) id) (eqb (length m) size)
+    where
+      good_or_not : (v : Bool) → Q (cond v (Ok (value m)) (Err BadField))
+      good_or_not true = a (value m)
+      good_or_not false = no_range
+
+      go : (s t u : Bool) → Q (held value good (cond s (Err OtherId) (cond t (cond u (Ok m) (Err WrongLength)) (Err OtherId))))
+      go true t u = no_kind
+      go false false u = no_kind
+      go false true false = no_length
+      go false true true = good_or_not (good (value m))
+
   -- what is accepted has the id and the length, and is the good value that the bytes hold
-  pub read_only : (z : R) → ((k : ℕ) → refusal k ≡ z → ⊥) → reading id size value good accepted refusal m ≡ z
-      → ((get_or m 0 0 ≡ id) × (length m ≡ size)) × (good (value m) ≡ true) × (accepted (value m) ≡ z)
+  pub accepted : {x : X} → reading id size value good m ≡ Ok x
+      → ((get_or m 0 0 ≡ id) × (length m ≡ size)) × (good x ≡ true) × (value m ≡ x)
   unfolding reading
-  read_only z never = go (eqb (misfit id size m) 0) refl (good (value m)) refl
+  accepted {x} = go (fit id size m) refl
     where
-      go : (t : Bool) → eqb (misfit id size m) 0 ≡ t → (u : Bool) → good (value m) ≡ u
-          → cond t (cond u (accepted (value m)) (refusal 8)) (refusal (misfit id size m)) ≡ z
-          → ((get_or m 0 0 ≡ id) × (length m ≡ size)) × (good (value m) ≡ true) × (accepted (value m) ≡ z)
-      go true e true g h = (fits id size m (eqb-true _ 0 e), g, h)
-      go true e false g h = absurd (never 8 h)
-      go false e u g h = absurd (never _ h)
-
-  -- the same where the answer tells of a refusal by its number
-  pub accepted_as : (number : R → ℕ) → ((k : ℕ) → number (refusal k) ≡ k) → number (reading id size value good accepted refusal m) ≡ 0
-      → ((get_or m 0 0 ≡ id) × (length m ≡ size)) × (good (value m) ≡ true) × (reading id size value good accepted refusal m ≡ accepted (value m))
-  unfolding reading
-  accepted_as number tells = go (eqb (misfit id size m) 0) refl (good (value m)) refl
-    where
-      go : (t : Bool) → eqb (misfit id size m) 0 ≡ t → (u : Bool) → good (value m) ≡ u
-          → number (cond t (cond u (accepted (value m)) (refusal 8)) (refusal (misfit id size m))) ≡ 0
-          → ((get_or m 0 0 ≡ id) × (length m ≡ size)) × (good (value m) ≡ true)
-          × (cond t (cond u (accepted (value m)) (refusal 8)) (refusal (misfit id size m)) ≡ accepted (value m))
-      go true e true g h = (fits id size m (eqb-true _ 0 e), g, refl)
-      go true e false g h = absurd (omega (arith, tells 8))
-      go false e u g h = absurd (eqb-false _ 0 e (sym (tells _) ∙ h))
-
-  -- and a number other than 0 is that of the refusal
-  pub refused_as : (number : R → ℕ) → ((k : ℕ) → number (refusal k) ≡ k) → ((x : X) → number (accepted x) ≡ 0)
-      → (number (reading id size value good accepted refusal m) ≡ 0 → ⊥)
-      → refusal (number (reading id size value good accepted refusal m)) ≡ reading id size value good accepted refusal m
-  unfolding reading
-  refused_as number tells zero = go (eqb (misfit id size m) 0) (good (value m))
-    where
-      go : (t u : Bool) → (number (cond t (cond u (accepted (value m)) (refusal 8)) (refusal (misfit id size m))) ≡ 0 → ⊥)
-          → refusal (number (cond t (cond u (accepted (value m)) (refusal 8)) (refusal (misfit id size m))))
-          ≡ cond t (cond u (accepted (value m)) (refusal 8)) (refusal (misfit id size m))
-      go true true h = absurd (h (zero (value m)))
-      go true false h = ap refusal (tells 8)
-      go false u h = ap refusal (tells _)
+      go : (r : Result (List ℕ) Refusal) → fit id size m ≡ r → held value good r ≡ Ok x
+          → ((get_or m 0 0 ≡ id) × (length m ≡ size)) × (good x ≡ true) × (value m ≡ x)
+      go (Err refusal) e h = absurd cc
+      go (Ok y) e h =
+          let f = fits id size m e in
+          let v = within (good (value y)) refl h in
+          ((f.0, f.1), v.0, ap value f.2 ∙ v.1)
+        where
+          within : (t : Bool) → good (value y) ≡ t → cond {A = Result X Refusal} t (Ok (value y)) (Err BadField) ≡ Ok x → (good x ≡ true) × (value y ≡ x)
+          within true g z = let w : value y ≡ x = cc in (subst (λ (v : X). good v ≡ true) w g, w)
+          within false g z = absurd cc
 
   -- where the value that the bytes hold is good, 8 is not given
-  pub never_8 : (number : R → ℕ) → ((k : ℕ) → number (refusal k) ≡ k) → ((x : X) → number (accepted x) ≡ 0) → good (value m) ≡ true
-      → number (reading id size value good accepted refusal m) ≡ misfit id size m
+  pub never_8 : good (value m) ≡ true → reading id size value good m ≡ held value (λ _. true) (fit id size m)
   unfolding reading
-  never_8 number tells zero g = simp g (go (eqb (misfit id size m) 0) refl)
+  never_8 g = go (fit id size m) refl
     where
-      go : (t : Bool) → eqb (misfit id size m) 0 ≡ t → number (cond t (accepted (value m)) (refusal (misfit id size m))) ≡ misfit id size m
-      go true e = zero (value m) ∙ sym (eqb-true _ 0 e)
-      go false e = tells _
+      go : (r : Result (List ℕ) Refusal) → fit id size m ≡ r → held value good r ≡ held value (λ _. true) r
+      go (Err refusal) e = refl
+      go (Ok y) e = simp (← (fits id size m e).2, g)
 
   -- another id is refused with 6
-  pub other_id : (get_or m 0 0 ≡ id → ⊥) → reading id size value good accepted refusal m ≡ refusal 6
-  unfolding reading misfit
+  pub other_id : (get_or m 0 0 ≡ id → ⊥) → reading id size value good m ≡ Err OtherId
+  unfolding reading fit
   other_id h = simp (ne_eqb (get_or m 0 0) id h) (go (eqb (length m) 0))
     where
-      go : (s : Bool) → cond (eqb (cond s 6 6) 0) (cond (good (value m)) (accepted (value m)) (refusal 8)) (refusal (cond s 6 6)) ≡ refusal 6
+      go : (s : Bool) → held value good (cond s (Err OtherId) (Err OtherId)) ≡ Err OtherId
       go true = refl
       go false = refl
-
-  -- the tests apart
-  abbrev pick : {S : Type 0} → (X → S) → (ℕ → S) → Bool → Bool → Bool → Bool → S
-  pick taken left s t u v =
-      cond (eqb (cond s 6 (cond t (cond u 0 7) 6)) 0) (cond v (taken (value m)) (left 8)) (left (cond s 6 (cond t (cond u 0 7) 6)))
-
-  -- two answers to the same bytes: what holds of them for an accepted value, and for 6, 7 and 8, holds of them
-  pub both_answers : {S : Type 0} (taken : X → S) (left : ℕ → S) (Q : R → S → Type 0) → ((x : X) → Q (accepted x) (taken x))
-      → Q (refusal 6) (left 6) → Q (refusal 7) (left 7) → Q (refusal 8) (left 8)
-      → Q (reading id size value good accepted refusal m) (reading id size value good taken left m)
-  unfolding reading misfit
-  both_answers taken left Q a no_kind no_length no-range =
-      go (eqb (length m) 0) (eqb (get_or m 0 0) id) (eqb (length m) size) (good (value m))
-    where
-      go : (s t u v : Bool) → Q (pick accepted refusal s t u v) (pick taken left s t u v)
-      go true t u v = no_kind
-      go false false u v = no_kind
-      go false true false v = no_length
-      go false true true true = a (value m)
-      go false true true false = no-range
-
-  -- what is made of the answer
-  pub made : {S : Type 0} (taken : X → S) (left : ℕ → S) {r : R} (h : R → S) → r ≡ reading id size value good accepted refusal m
-      → ((x : X) → h (accepted x) ≡ taken x) → h (refusal 6) ≡ left 6 → h (refusal 7) ≡ left 7 → h (refusal 8) ≡ left 8
-      → h r ≡ reading id size value good taken left m
-  made taken left h e a no_kind no_length no-range = ap h e ∙ both_answers taken left (λ x y. h x ≡ y) a no_kind no_length no-range

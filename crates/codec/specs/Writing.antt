@@ -1,29 +1,30 @@
 -- What writing a message answers (RULES 'Numbers', 'Messages'), and what the lent output then holds.
 -- Assumes nothing.
-use Rattle.std.specs.Prelude.{◌≡◌, ℕ, Bool, cond, List, [], leb, length}
+use Rattle.std.specs.Prelude.{◌≡◌, ℕ, Bool, cond, List, [], leb, length, Result, Ok, Err}
 use Rattle.numbers.specs.Lent.{written}
-use Rattle.codec.specs.declared.Written.{Written}
-use Rattle.codec.specs.declared.Written.TheVariants.{Bytes, Refused}
+use Rattle.refusals.specs.declared.Refusal.{Refusal}
+use Rattle.refusals.specs.declared.Refusal.TheVariants.{BadField, NoRoom}
+use Rattle.refusals.specs.Numbers.{refusal_number}
 
 -- 8 unless the value is good; then 9 exactly when the output is shorter than the message; `room` is its length
-unfoldable pub writing : Bool → List ℕ → ℕ → Written
-writing good bytes room = cond good (cond (leb (length bytes) room) (Bytes (length bytes)) (Refused 9)) (Refused 8)
+unfoldable pub writing : Bool → List ℕ → ℕ → Result ℕ Refusal
+writing good bytes room = cond good (cond (leb (length bytes) room) (Ok (length bytes)) (Err NoRoom)) (Err BadField)
 
--- the number, and the bytes written, for each case
-abbrev pub written_number : Written → ℕ
-written_number (Bytes n) = 0
-written_number (Refused k) = k
+-- the number, and the bytes written, for each answer
+abbrev pub written_number : Result ℕ Refusal → ℕ
+written_number (Ok n) = 0
+written_number (Err refusal) = refusal_number refusal
 
-abbrev pub written_size : Written → ℕ
-written_size (Bytes n) = n
-written_size (Refused k) = 0
+abbrev pub written_size : Result ℕ Refusal → ℕ
+written_size (Ok n) = n
+written_size (Err refusal) = 0
 
--- the bytes that each case writes for a message
-abbrev pub written_output : Written → List ℕ → List ℕ
-written_output (Bytes n) bytes = bytes
-written_output (Refused k) bytes = []
+-- the bytes that each answer writes for a message
+abbrev pub written_output : Result ℕ Refusal → List ℕ → List ℕ
+written_output (Ok n) bytes = bytes
+written_output (Err refusal) bytes = []
 
 -- the bytes of a message, written where the value is good
-pub record Wrote (good : Bool) (bytes out : List ℕ) (answer : Written) (left : List ℕ) : Type 0 where
+pub record Wrote (good : Bool) (bytes out : List ℕ) (answer : Result ℕ Refusal) (left : List ℕ) : Type 0 where
   pub answers : answer ≡ writing good bytes (length out)
   pub leaves : left ≡ written (written_output answer bytes) out

@@ -1,7 +1,7 @@
 -- Laws of the heartbeat.
 -- Assumes nothing.
-use mathlib.Core.Path.{◌≡◌, refl, sym, ap, ◌∙◌}
-use mathlib.Core.Bool.{Bool, true, false, cond, and-true}
+use mathlib.Core.Path.{◌≡◌, sym, ap, ◌∙◌}
+use mathlib.Core.Bool.{true, and-true}
 use Prim.Native.Nat.{ℕ, suc, ◌+◌, ◌*◌, ◌/◌, ◌%◌, ◌<◌}
 use mathlib.Core.List.{◌∷◌}
 use native.Mathlib.Omega.{arith}
@@ -13,8 +13,7 @@ use Rattle.numbers.proofs.Every.{both}
 use Rattle.codec.specs.Reading.{reading}
 use Rattle.units.specs.TimeOfDay.{last_second, is_time_of_day}
 use Rattle.message_types.specs.declared.Heartbeat.{Heartbeat}
-use Rattle.message_types.specs.declared.HeartbeatRead.{HeartbeatRead}
-use Rattle.heartbeat.specs.Heartbeat.{time_of, count_of, heartbeat_in, good_heartbeat, heartbeat_refused, HeartbeatBits}
+use Rattle.heartbeat.specs.Heartbeat.{time_of, count_of, heartbeat_in, good_heartbeat, HeartbeatBits}
 use Rattle.heartbeat.specs.Claims.{HeartbeatWrittenRead, HeartbeatReadWritten, LateIs8}
 
 -- a good heartbeat's fields are within their bits
@@ -73,8 +72,4 @@ late_is_8 m bytes fit =
     let u = lt-ltb (get_or m 5 0 / 8) 32 (omega arith) in
     let r = lt-ltb (get_or m 5 0 / 4 % 2) 2 (omega arith) in
     let n = lt-ltb (count_of (get_or m 5 0) (get_or m 6 0)) 1024 (omega arith) in
-    simp (fit, s, u, r, n, and-true) (go (is_time_of_day (heartbeat_in m).time))
-  where
-    go : (t : Bool) → (cond {A = HeartbeatRead} t (record { number = 0; heartbeat = heartbeat_in m }) (heartbeat_refused 8)).number ≡ cond t 0 8
-    go true = refl
-    go false = refl
+    simp (fit, s, u, r, n, and-true)

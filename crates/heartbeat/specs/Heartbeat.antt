@@ -1,13 +1,10 @@
 -- The heartbeat (001 §3.1, RULES 'Heartbeat'): id 0, seven bytes.
 -- Assumes nothing.
-use Rattle.std.specs.Prelude.{ℕ, ◌+◌, ◌*◌, ◌/◌, ◌%◌, ◌<◌, Bool, ◌&&◌, List, [], ◌∷◌, ltb, get_or}
+use Rattle.std.specs.Prelude.{ℕ, ◌+◌, ◌*◌, ◌/◌, ◌%◌, ◌<◌, Bool, ◌&&◌, List, [], ◌∷◌, ltb, get_or, Result}
+use Rattle.refusals.specs.declared.Refusal.{Refusal}
 use Rattle.codec.specs.Reading.{reading}
 use Rattle.units.specs.TimeOfDay.{is_time_of_day}
 use Rattle.message_types.specs.declared.Heartbeat.{Heartbeat}
-use Rattle.message_types.specs.declared.HeartbeatRead.{HeartbeatRead}
-use Rattle.message_types.specs.declared.Message.TheVariants as kind
-use Rattle.message_types.specs.declared.Reading.{Reading}
-use Rattle.message_types.specs.declared.Reading.TheVariants.{Message, Refused}
 
 -- §3.1.3: bit 16 is bit 7 of status byte 2; the others are two bytes, low first
 abbrev pub time_of : ℕ → ℕ → ℕ → ℕ
@@ -46,18 +43,8 @@ heartbeat_bytes h =
     ∷ (h.basic_and_long % 256)
     ∷ []
 
-abbrev pub heartbeat_refused : ℕ → HeartbeatRead
-heartbeat_refused k = record {
-  number = k;
-  heartbeat = record { status1 = 0; status2 = 0; time = 0; uplinks = 0; reserved = 0; basic_and_long = 0 };
-}
-
--- the number with the value, and the same as a message of whatever kind
-abbrev pub heartbeat_read : List ℕ → HeartbeatRead
-heartbeat_read = reading 0 7 heartbeat_in good_heartbeat (λ h. record { number = 0; heartbeat = h }) heartbeat_refused
-
-abbrev pub read_heartbeat : List ℕ → Reading
-read_heartbeat = reading 0 7 heartbeat_in good_heartbeat (λ h. Message (kind.Heartbeat h)) Refused
+abbrev pub read_heartbeat : List ℕ → Result Heartbeat Refusal
+read_heartbeat = reading 0 7 heartbeat_in good_heartbeat
 
 -- each field within its bits
 pub record HeartbeatBits (h : Heartbeat) : Type 0 where

@@ -1,54 +1,34 @@
 // The heartbeat (001 §3.1): what the receiver says of itself.
 #![tactic(auto)]
 
-ghost use Rattle.std.specs.Prelude.{◌≡◌, length};
+ghost use Rattle.std.specs.Prelude.{◌≡◌};
 ghost use Rattle.codec.specs.Writing.{Wrote};
-ghost use Rattle.heartbeat.specs.Heartbeat.{time_of, count_of, heartbeat_in, good_heartbeat, heartbeat_bytes, heartbeat_refused, heartbeat_read, HeartbeatBits};
+ghost use Rattle.heartbeat.specs.Heartbeat.{time_of, count_of, heartbeat_in, good_heartbeat, heartbeat_bytes, read_heartbeat, HeartbeatBits};
 
-use message_types::{Heartbeat, HeartbeatRead};
+use message_types::Heartbeat;
+use refusals::Refusal;
 
-pub fn read_heartbeat(message: &[u8]) -> HeartbeatRead
-    ensures { result ≡ heartbeat_read message.now }
+#[tactic(auto, unfolding(codec::specs::Reading::reading))]
+pub fn read_heartbeat(message: &[u8]) -> Result<Heartbeat, Refusal>
+    ensures { result ≡ read_heartbeat message.now }
 {
-    let misfit = codec::misfit(message, Heartbeat::ID, Heartbeat::LENGTH);
-    if misfit != 0 {
-        return heartbeat_refused(misfit);
-    }
-    let heartbeat = heartbeat_in(message);
+    let bytes = codec::fit(message, Heartbeat::ID)?;
+    let heartbeat = heartbeat_in(bytes);
     if is_good_heartbeat(heartbeat) {
-        HeartbeatRead {
-            number: 0,
-            heartbeat,
-        }
+        Ok(heartbeat)
     } else {
-        heartbeat_refused(8)
+        Err(Refusal::BadField)
     }
 }
 
-fn heartbeat_refused(number: u8) -> HeartbeatRead
-    ensures { result ≡ heartbeat_refused number }
-{
-    HeartbeatRead {
-        number,
-        heartbeat: Heartbeat {
-            status1: 0,
-            status2: 0,
-            time: 0,
-            uplinks: 0,
-            reserved: 0,
-            basic_and_long: 0,
-        },
-    }
-}
-
-pub fn write_heartbeat(heartbeat: Heartbeat, out: &mut [u8]) -> codec::Written
+#[tactic(auto, unfolding(codec::specs::Writing::writing, numbers::specs::Lent::written))]
+pub fn write_heartbeat(heartbeat: Heartbeat, out: &mut [u8]) -> Result<usize, Refusal>
     ensures { Wrote (good_heartbeat heartbeat) (heartbeat_bytes heartbeat) out.old result out.new }
 {
     if is_good_heartbeat(heartbeat) {
-        let bytes = heartbeat_bytes(heartbeat);
-        codec::put(&bytes, out)
+        codec::put(&heartbeat_bytes(heartbeat), out)
     } else {
-        codec::Written::Refused(8)
+        Err(Refusal::BadField)
     }
 }
 
@@ -62,46 +42,46 @@ fn is_good_heartbeat(heartbeat: Heartbeat) -> bool
                 & ((heartbeat.reserved < 2) & (heartbeat.basic_and_long < 1024))))
 }
 
-fn heartbeat_in(message: &[u8]) -> Heartbeat
-    requires { length message.now ≡ 7 }
-    ensures { result ≡ heartbeat_in message.now }
+#[tactic(auto, unfolding(crate::specs::Heartbeat::heartbeat_in))]
+fn heartbeat_in(bytes: &[u8; Heartbeat::LENGTH]) -> Heartbeat
+    ensures { result ≡ heartbeat_in bytes.now }
 {
-    let counts = message[5];
+    let [_, status1, status2, low, high, counts, count] = *bytes;
     Heartbeat {
-        status1: message[1],
-        status2: message[2] % 128,
-        time: time_of(message[2], message[3], message[4]),
+        status1,
+        status2: status2 % 128,
+        time: time_of(status2, low, high),
         uplinks: counts / 8,
         reserved: counts / 4 % 2,
-        basic_and_long: count_of(counts, message[6]),
+        basic_and_long: count_of(counts, count),
     }
 }
 
 fn time_of(status2: u8, low: u8, high: u8) -> u32
     ensures { result ≡ time_of status2 low high }
 {
-    (status2 as u32) / 128 * 65536 + (high as u32) * 256 + (low as u32)
+    u32::from_le_bytes([low, high, status2 / 128, 0])
 }
 
 fn count_of(high: u8, low: u8) -> u16
     ensures { result ≡ count_of high low }
 {
-    (high as u16) % 4 * 256 + (low as u16)
+    u16::from_be_bytes([high % 4, low])
 }
 
-fn heartbeat_bytes(heartbeat: Heartbeat) -> [u8; 7]
+fn heartbeat_bytes(heartbeat: Heartbeat) -> [u8; Heartbeat::LENGTH]
     requires { HeartbeatBits heartbeat }
     ensures { result ≡ heartbeat_bytes heartbeat }
 {
-    let time = heartbeat.time;
-    let count = heartbeat.basic_and_long;
+    let [low, high, top, _] = heartbeat.time.to_le_bytes();
+    let [above, count] = heartbeat.basic_and_long.to_be_bytes();
     [
         Heartbeat::ID,
         heartbeat.status1,
-        (time / 65536 * 128) as u8 + heartbeat.status2,
-        (time % 256) as u8,
-        (time / 256 % 256) as u8,
-        heartbeat.uplinks * 8 + heartbeat.reserved * 4 + (count / 256) as u8,
-        (count % 256) as u8,
+        top * 128 + heartbeat.status2,
+        low,
+        high,
+        heartbeat.uplinks * 8 + heartbeat.reserved * 4 + above,
+        count,
     ]
 }

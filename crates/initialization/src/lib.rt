@@ -3,38 +3,24 @@
 
 ghost use Rattle.std.specs.Prelude.{◌≡◌};
 ghost use Rattle.codec.specs.Writing.{Wrote};
-ghost use Rattle.initialization.specs.Initialization.{good_initialization, initialization_bytes, initialization_refused, initialization_read};
+ghost use Rattle.initialization.specs.Initialization.{good_initialization, initialization_bytes, read_initialization};
 
-use message_types::{Initialization, InitializationRead};
+use message_types::Initialization;
+use refusals::Refusal;
 
-pub fn read_initialization(message: &[u8]) -> InitializationRead
-    ensures { result ≡ initialization_read message.now }
+#[tactic(auto, unfolding(codec::specs::Reading::reading))]
+pub fn read_initialization(message: &[u8]) -> Result<Initialization, Refusal>
+    ensures { result ≡ read_initialization message.now }
 {
-    let misfit = codec::misfit(message, Initialization::ID, Initialization::LENGTH);
-    if misfit != 0 {
-        return initialization_refused(misfit);
-    }
-    let first = message[1];
-    let second = message[2];
-    InitializationRead {
-        number: 0,
-        initialization: Initialization { first, second },
-    }
+    let bytes: &[u8; Initialization::LENGTH] = codec::fit(message, Initialization::ID)?;
+    let [_, first, second] = *bytes;
+    Ok(Initialization { first, second })
 }
 
-fn initialization_refused(number: u8) -> InitializationRead
-    ensures { result ≡ initialization_refused number }
-{
-    InitializationRead {
-        number,
-        initialization: Initialization {
-            first: 0,
-            second: 0,
-        },
-    }
-}
-
-pub fn write_initialization(initialization: Initialization, out: &mut [u8]) -> codec::Written
+pub fn write_initialization(
+    initialization: Initialization,
+    out: &mut [u8],
+) -> Result<usize, Refusal>
     ensures { Wrote (good_initialization initialization) (initialization_bytes initialization) out.old result out.new }
 {
     let bytes = [

@@ -1,12 +1,12 @@
 // The seven kinds of message as typed values (001 §3; RULES 'Messages'). There is no code here: the crates above
-// read and write them. Marks such as none or over are cases of their own; bits named reserved or spare are carried.
+// read and write them. A field that may be marked as none is an `Option`, one with more marks an enum; bits named reserved or spare are carried.
 #![tactic(auto)]
 
 use units::{GeometricSteps, PressureSteps, TerrainFeet};
 
 // 001 §3.1
 #[repr(C)]
-#[derive(Clone, Copy)]
+#[derive(Clone, Copy, Debug, Default, PartialEq, Eq)]
 pub struct Heartbeat {
     pub status1: u8,
     // bits 6 to 0; bit 7 is the time's
@@ -26,7 +26,7 @@ impl Heartbeat {
 
 // 001 §3.2
 #[repr(C)]
-#[derive(Clone, Copy)]
+#[derive(Clone, Copy, Debug, Default, PartialEq, Eq)]
 pub struct Initialization {
     pub first: u8,
     pub second: u8,
@@ -38,18 +38,11 @@ impl Initialization {
     pub const LENGTH: usize = 3;
 }
 
-// Time of reception in the second.
-#[derive(Clone, Copy)]
-pub enum Reception {
-    // of 80 ns
-    Steps(u32),
-    None,
-}
-
 // 001 §3.3. The payload stays in the message.
-#[derive(Clone, Copy)]
+#[derive(Clone, Copy, Debug, PartialEq, Eq)]
 pub struct Uplink {
-    pub reception: Reception,
+    // time of reception in the second, in steps of 80 ns
+    pub reception: Option<u32>,
 }
 
 impl Uplink {
@@ -58,16 +51,10 @@ impl Uplink {
     pub const LENGTH: usize = 436;
 }
 
-#[derive(Clone, Copy)]
-pub enum Height {
-    Feet(TerrainFeet),
-    None,
-}
-
 // 001 §3.7
-#[derive(Clone, Copy)]
+#[derive(Clone, Copy, Debug, PartialEq, Eq)]
 pub struct HeightAboveTerrain {
-    pub height: Height,
+    pub height: Option<TerrainFeet>,
 }
 
 impl HeightAboveTerrain {
@@ -77,28 +64,22 @@ impl HeightAboveTerrain {
 }
 
 // In steps of 180/2^23 degrees, north and east positive.
-#[derive(Clone, Copy)]
-pub enum Position {
-    At { latitude: i32, longitude: i32 },
-    None,
+#[derive(Clone, Copy, Debug, PartialEq, Eq)]
+pub struct Position {
+    pub latitude: i32,
+    pub longitude: i32,
 }
 
-#[derive(Clone, Copy)]
-pub enum Altitude {
-    Known(PressureSteps),
-    None,
-}
-
-// 001 Table 9: what the track is.
-#[derive(Clone, Copy)]
+// 001 Table 9: what the track is, with its number.
+#[derive(Clone, Copy, Debug, PartialEq, Eq)]
 pub enum TrackKind {
-    NotValid,
-    TrueTrack,
-    MagneticHeading,
-    TrueHeading,
+    NotValid = 0,
+    TrueTrack = 1,
+    MagneticHeading = 2,
+    TrueHeading = 3,
 }
 
-#[derive(Clone, Copy)]
+#[derive(Clone, Copy, Debug, PartialEq, Eq)]
 pub enum Speed {
     Knots(u16),
     // 4,094 knots or more
@@ -107,7 +88,7 @@ pub enum Speed {
 }
 
 // In steps of 64 feet per minute.
-#[derive(Clone, Copy)]
+#[derive(Clone, Copy, Debug, PartialEq, Eq)]
 pub enum Climb {
     Steps(i32),
     // more than 509 steps up, and down
@@ -118,7 +99,7 @@ pub enum Climb {
 
 // As it came, any bytes.
 #[repr(C)]
-#[derive(Clone, Copy)]
+#[derive(Clone, Copy, Debug, Default, PartialEq, Eq)]
 pub struct CallSign(
     pub u8,
     pub u8,
@@ -131,13 +112,13 @@ pub struct CallSign(
 );
 
 // 001 §3.5.1, of an ownship (§3.4) and of traffic (§3.5)
-#[derive(Clone, Copy)]
+#[derive(Clone, Copy, Debug, PartialEq, Eq)]
 pub struct Report {
     pub alert: u8,
     pub address_type: u8,
     pub address: u32,
-    pub position: Position,
-    pub altitude: Altitude,
+    pub position: Option<Position>,
+    pub altitude: Option<PressureSteps>,
     pub track_kind: TrackKind,
     pub extrapolated: bool,
     pub airborne: bool,
@@ -153,7 +134,7 @@ pub struct Report {
     pub spare: u8,
 }
 
-#[derive(Clone, Copy)]
+#[derive(Clone, Copy, Debug, PartialEq, Eq)]
 pub struct Ownship {
     pub report: Report,
 }
@@ -164,7 +145,7 @@ impl Ownship {
     pub const LENGTH: usize = 28;
 }
 
-#[derive(Clone, Copy)]
+#[derive(Clone, Copy, Debug, PartialEq, Eq)]
 pub struct Traffic {
     pub report: Report,
 }
@@ -176,7 +157,7 @@ impl Traffic {
 }
 
 // A figure of merit.
-#[derive(Clone, Copy)]
+#[derive(Clone, Copy, Debug, PartialEq, Eq)]
 pub enum Merit {
     Metres(u16),
     // over 32,766 metres
@@ -185,7 +166,7 @@ pub enum Merit {
 }
 
 // 001 §3.8
-#[derive(Clone, Copy)]
+#[derive(Clone, Copy, Debug, PartialEq, Eq)]
 pub struct GeometricAltitude {
     pub altitude: GeometricSteps,
     pub warning: bool,
@@ -198,40 +179,7 @@ impl GeometricAltitude {
     pub const LENGTH: usize = 5;
 }
 
-// What reading one kind answers: the number, and the value, which is all zero with a refusal.
-#[repr(C)]
-#[derive(Clone, Copy)]
-pub struct HeartbeatRead {
-    pub number: u8,
-    pub heartbeat: Heartbeat,
-}
-
-#[repr(C)]
-#[derive(Clone, Copy)]
-pub struct InitializationRead {
-    pub number: u8,
-    pub initialization: Initialization,
-}
-
-#[derive(Clone, Copy)]
-pub struct UplinkRead {
-    pub number: u8,
-    pub uplink: Uplink,
-}
-
-#[derive(Clone, Copy)]
-pub struct HeightRead {
-    pub number: u8,
-    pub height: HeightAboveTerrain,
-}
-
-#[derive(Clone, Copy)]
-pub struct GeometricRead {
-    pub number: u8,
-    pub geometric: GeometricAltitude,
-}
-
-#[derive(Clone, Copy)]
+#[derive(Clone, Copy, Debug, PartialEq, Eq)]
 pub enum Message {
     Heartbeat(Heartbeat),
     Initialization(Initialization),
@@ -240,11 +188,4 @@ pub enum Message {
     Ownship(Ownship),
     Geometric(GeometricAltitude),
     Traffic(Traffic),
-}
-
-#[derive(Clone, Copy)]
-pub enum Reading {
-    Message(Message),
-    // the number: 6, empty or another id; 17, a retired id; 7, length; 8, a field outside its range
-    Refused(u8),
 }

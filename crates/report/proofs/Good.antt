@@ -13,13 +13,13 @@ use borrow.Author.Tests.{eqb-false, ltb-true, ltb-false, lt-ltb, le-leb}
 use Rattle.numbers.specs.Signed.{signed_in}
 use Rattle.numbers.proofs.Signed.{field_signed}
 use Rattle.c_report.specs.Flat.{latitude_of, longitude_of, climb_steps}
+use Rattle.std.specs.Prelude.{Option, Some, None, is_none}
+use Rattle.units.specs.declared.PressureSteps.{PressureSteps}
 use Rattle.message_types.specs.declared.Position.{Position}
-use Rattle.message_types.specs.declared.Position.TheVariants.{At, None as no-position}
-use Rattle.message_types.specs.declared.Altitude.TheVariants.{Known, None as no-altitude}
 use Rattle.message_types.specs.declared.Speed.TheVariants.{Knots, Over, None as no-speed}
 use Rattle.message_types.specs.declared.Climb.{Climb}
 use Rattle.message_types.specs.declared.Climb.TheVariants.{Steps, Above, Below, None as no-climb}
-use Rattle.report.specs.Marks.{none_mark, position_of, is_none, place_of, altitude_of, steps_or, speed_of, knots_or, climb_of, climb_or}
+use Rattle.report.specs.Marks.{none_mark, position_of, place_of, altitude_of, steps_or, speed_of, knots_or, climb_of, climb_or}
 use Rattle.report.specs.Bytes.{codes_in, report_in}
 use Rattle.report.specs.Reading.{between, is_zero, south_pole, north_pole, lowest_climb, highest_climb, last_integrity, last_accuracy, good_position, good_report}
 use Rattle.report.proofs.Marked.{zero_code, degrees_in}
@@ -29,7 +29,7 @@ altitude_good : (d : ℕ) → d < 0x1000 → ltb (steps_or (altitude_of d) 0) 0x
 unfolding altitude_of
 altitude_good d h = go (eqb d 0xFFF) refl
   where
-    go : (t : Bool) → eqb d 0xFFF ≡ t → ltb (steps_or (cond t no-altitude (Known (record { steps = d }))) 0) 0xFFF ≡ true
+    go : (t : Bool) → eqb d 0xFFF ≡ t → ltb (steps_or (cond {A = Option PressureSteps} t None (Some (record { steps = d }))) 0) 0xFFF ≡ true
     go true e = refl
     go false e = let apart = eqb-false d 0xFFF e in lt-ltb d 0xFFF (omega arith)
 
@@ -66,13 +66,13 @@ none_good : (lat lon i : ℕ) → lat < 0x1000000 → lon < 0x1000000
 unfolding position_of
 none_good lat lon i h k = simp (zero_in lat h, zero_in lon k) (go (none_mark lat lon i))
   where
-    go : (b : Bool) → beq (is_none (cond b no-position (At (signed_in 0x800000 lat) (signed_in 0x800000 lon)))) b ≡ true
+    go : (b : Bool) → beq (is_none (cond {A = Option Position} b None (Some (record { latitude = signed_in 0x800000 lat; longitude = signed_in 0x800000 lon })))) b ≡ true
     go true = refl
     go false = refl
 
-same_place : (p : Position) → ((place_of p).latitude ≡ latitude_of p) × ((place_of p).longitude ≡ longitude_of p)
-same_place (At a o) = (refl, refl)
-same_place no-position = (refl, refl)
+same_place : (p : Option Position) → ((place_of p).latitude ≡ latitude_of p) × ((place_of p).longitude ≡ longitude_of p)
+same_place (Some p) = (refl, refl)
+same_place None = (refl, refl)
 
 same_climb : (c : Climb) → climb_or c (pos 0) (pos 0) (pos 0) ≡ climb_steps c
 same_climb (Steps z) = refl

@@ -10,14 +10,14 @@ use lib.Signed.{mag}
 use borrow.Author.Tests.{ne_eqb, ltb-true, eqb-true, leb-true, le-leb, lt-leb}
 use Rattle.numbers.proofs.Every.{both, chosen, every, at}
 use Rattle.numbers.proofs.Signed.{field_signed, signed_field, field_fits}
+use Rattle.std.specs.Int.{from_bool}
 use Rattle.numbers.specs.Signed.{signed_in, field_of}
-use Rattle.c_report.specs.Flat.{latitude_of, longitude_of, track_number, track_from, climb_mark, climb_steps}
-use Rattle.report.specs.Marks.{none_mark, position_of, is_none, place_of, altitude_of, steps_or, as_bit, speed_of, knots_or, climb_of, climb_or}
+use Rattle.c_report.specs.Flat.{latitude_of, longitude_of, track_number, track_from, climb_steps}
+use Rattle.report.specs.Marks.{none_mark, position_of, place_of, altitude_of, steps_or, speed_of, knots_or, climb_of, climb_or}
 use Rattle.report.specs.Reading.{between, is_zero, good_position}
+use Rattle.std.specs.Prelude.{Option, Some, None, is_none}
+use Rattle.units.specs.declared.PressureSteps.{PressureSteps}
 use Rattle.message_types.specs.declared.Position.{Position}
-use Rattle.message_types.specs.declared.Position.TheVariants.{At, None as no-position}
-use Rattle.message_types.specs.declared.Altitude.{Altitude}
-use Rattle.message_types.specs.declared.Altitude.TheVariants.{Known, None as no-altitude}
 use Rattle.message_types.specs.declared.TrackKind.{TrackKind}
 use Rattle.message_types.specs.declared.TrackKind.TheVariants.{NotValid, TrueTrack, MagneticHeading, TrueHeading}
 use Rattle.message_types.specs.declared.Speed.{Speed}
@@ -36,12 +36,12 @@ pub altitude_code : (d : ℕ) → steps_or (altitude_of d) 0xFFF ≡ d
 unfolding altitude_of
 altitude_code d = chosen (λ a. steps_or a 0xFFF ≡ d) d 0xFFF _ _ sym refl
 
-pub altitude_back : (a : Altitude) → ltb (steps_or a 0) 0xFFF ≡ true → (altitude_of (steps_or a 0xFFF) ≡ a) × (steps_or a 0xFFF < 0x1000)
+pub altitude_back : (a : Option PressureSteps) → ltb (steps_or a 0) 0xFFF ≡ true → (altitude_of (steps_or a 0xFFF) ≡ a) × (steps_or a 0xFFF < 0x1000)
 unfolding altitude_of
-altitude_back (Known a) g =
+altitude_back (Some a) g =
     let h : a.steps < 0xFFF = ltb-true a.steps 0xFFF g in
     (simp (ne_eqb a.steps 0xFFF (λ e. omega arith)), omega arith)
-altitude_back no-altitude g = (refl, omega arith)
+altitude_back None g = (refl, omega arith)
 
 pub speed_code : (h : ℕ) → knots_or (speed_of h) 0xFFE 0xFFF ≡ h
 unfolding speed_of
@@ -100,11 +100,11 @@ kind_fits TrueTrack = omega arith
 kind_fits MagneticHeading = omega arith
 kind_fits TrueHeading = omega arith
 
-pub bit_code : (n : ℕ) → n < 2 → as_bit (eqb n 1) ≡ n
+pub bit_code : (n : ℕ) → n < 2 → from_bool (eqb n 1) ≡ n
 unfolding every
-bit_code n h = eqb-true _ n (at (λ k. eqb (as_bit (eqb k 1)) k) 2 refl n h)
+bit_code n h = eqb-true _ n (at (λ k. eqb (from_bool (eqb k 1)) k) 2 refl n h)
 
-pub bit_back : (b : Bool) → (eqb (as_bit b) 1 ≡ b) × (as_bit b < 2)
+pub bit_back : (b : Bool) → (eqb (from_bool b) 1 ≡ b) × (from_bool b < 2)
 bit_back true = (refl, omega arith)
 bit_back false = (refl, omega arith)
 
@@ -117,8 +117,8 @@ pub position_code : (lat lon i : ℕ) → lat < 0x1000000 → lon < 0x1000000 �
 unfolding position_of field_of
 position_code lat lon i h k = go (none_mark lat lon i) refl
   where
-    made : Bool → Position
-    made b = cond b no-position (At (signed_in 0x800000 lat) (signed_in 0x800000 lon))
+    made : Bool → Option Position
+    made b = cond b None (Some (record { latitude = signed_in 0x800000 lat; longitude = signed_in 0x800000 lon }))
 
     go : (b : Bool) → none_mark lat lon i ≡ b → (degree_code (place_of (made b)).latitude ≡ lat) × (degree_code (place_of (made b)).longitude ≡ lon)
     go true e =
@@ -133,7 +133,7 @@ zero_code (pos (suc n)) h = simp (ne_eqb (suc n) 0 (λ e. omega arith), le-leb 0
 zero_code (negsuc n) h =
     let k : n < 0x800000 = h in ne_eqb (2 * 0x800000 - 1 - n) 0 (λ (e : 2 * 0x800000 - 1 - n ≡ 0). omega arith)
 
-pub position_back : (p : Position) (i : ℕ) → good_position p i ≡ true → (position_of (degree_code (place_of p).latitude) (degree_code (place_of p).longitude) i ≡ p) × (degree_code (place_of p).latitude < 0x1000000) × (degree_code (place_of p).longitude < 0x1000000)
+pub position_back : (p : Option Position) (i : ℕ) → good_position p i ≡ true → (position_of (degree_code (place_of p).latitude) (degree_code (place_of p).longitude) i ≡ p) × (degree_code (place_of p).latitude < 0x1000000) × (degree_code (place_of p).longitude < 0x1000000)
 unfolding good_position position_of
 position_back p i g =
     let lat = (place_of p).latitude in
@@ -147,46 +147,39 @@ position_back p i g =
       omega (arith, field_fits 0x800000 lon (omega arith)),
     )
   where
-    go : (p : Position) →
+    go : (p : Option Position) →
         mag (place_of p).latitude < 0x800000 →
         mag (place_of p).longitude < 0x800000 →
         (b : Bool) →
         beq (is_none p) b ≡ true →
-        cond b no-position (At (signed_in 0x800000 (degree_code (place_of p).latitude)) (signed_in 0x800000 (degree_code (place_of p).longitude))) ≡ p
-    go (At lat lon) h k true e = cc
-    go (At lat lon) h k false e = λ j. At (signed_field 0x800000 lat h j) (signed_field 0x800000 lon k j)
-    go no-position h k true e = refl
-    go no-position h k false e = cc
+        cond {A = Option Position} b None (Some (record { latitude = signed_in 0x800000 (degree_code (place_of p).latitude); longitude = signed_in 0x800000 (degree_code (place_of p).longitude) })) ≡ p
+    go (Some place) h k true e = cc
+    go (Some place) h k false e = λ j. Some (record { latitude = signed_field 0x800000 place.latitude h j; longitude = signed_field 0x800000 place.longitude k j })
+    go None h k true e = refl
+    go None h k false e = cc
 
 -- ---- what reading into numbers uses
 
--- a climb without a mark is the number in the bits; beside a mark stands 0
-pub climb_plain : (v : ℕ) → climb_mark (climb_of v) ≡ 0 → climb_steps (climb_of v) ≡ signed_in 0x800 v
-unfolding climb_of
-climb_plain v = go (eqb v 0x800) (eqb v 0x1FE) (eqb v 0xE02)
+-- 32 bits hold the number of a climb
+pub climb_fits : (v : ℕ) → mag (climb_steps (climb_of v)) < 0x80000000
+unfolding climb_of signed_in
+climb_fits v = go (eqb v 0x800) (eqb v 0x1FE) (eqb v 0xE02) (ltb v 0x800) refl
   where
-    made : Bool → Bool → Bool → Climb
-    made a b d = cond a no-climb (cond b Above (cond d Below (Steps (signed_in 0x800 v))))
-
-    go : (a b d : Bool) → climb_mark (made a b d) ≡ 0 → climb_steps (made a b d) ≡ signed_in 0x800 v
-    go true b d e = absurd (omega arith)
-    go false true d e = absurd (omega arith)
-    go false false true e = absurd (omega arith)
-    go false false false e = refl
-
-pub climb_marked : (c : Climb) → (climb_mark c ≡ 0 → ⊥) → climb_steps c ≡ pos 0
-climb_marked (Steps z) h = absurd (h refl)
-climb_marked Above h = refl
-climb_marked Below h = refl
-climb_marked no-climb h = refl
+    go : (a b d t : Bool) → ltb v 0x800 ≡ t
+        → mag (climb_steps (cond a no-climb (cond b Above (cond d Below (Steps (cond t (pos v) (negsuc (2 * 0x800 - 1 - v)))))))) < 0x80000000
+    go true b d t e = omega arith
+    go false true d t e = omega arith
+    go false false true t e = omega arith
+    go false false false true e = omega (arith, ltb-true v 0x800 e)
+    go false false false false e = omega arith
 
 -- latitude and longitude are the numbers in the bits, also where they are none
 pub degrees_in : (lat lon i : ℕ) → (latitude_of (position_of lat lon i) ≡ signed_in 0x800000 lat) × (longitude_of (position_of lat lon i) ≡ signed_in 0x800000 lon)
 unfolding position_of signed_in
 degrees_in lat lon i = go (none_mark lat lon i) refl
   where
-    made : Bool → Position
-    made b = cond b no-position (At (signed_in 0x800000 lat) (signed_in 0x800000 lon))
+    made : Bool → Option Position
+    made b = cond b None (Some (record { latitude = signed_in 0x800000 lat; longitude = signed_in 0x800000 lon }))
 
     go : (b : Bool) → none_mark lat lon i ≡ b → (latitude_of (made b) ≡ signed_in 0x800000 lat) × (longitude_of (made b) ≡ signed_in 0x800000 lon)
     go true e =

@@ -2,9 +2,10 @@
 -- where each letter is four bits.
 -- Assumes nothing.
 use Rattle.std.specs.Prelude.{ℕ, ◌+◌, ◌*◌, ◌/◌, ◌%◌, List, [], ◌∷◌, eqb, pos, negsuc, get_or}
+use Rattle.std.specs.Int.{from_bool}
 use Rattle.numbers.specs.Signed.{field_of}
 use Rattle.c_report.specs.Flat.{track_number, track_from}
-use Rattle.report.specs.Marks.{position_of, place_of, altitude_of, steps_or, as_bit, speed_of, knots_or, climb_of, climb_or}
+use Rattle.report.specs.Marks.{position_of, place_of, altitude_of, steps_or, speed_of, knots_or, climb_of, climb_or}
 use Rattle.report.specs.declared.Codes.{Codes}
 use Rattle.message_types.specs.declared.CallSign.{CallSign}
 use Rattle.message_types.specs.declared.Ownship.{Ownship}
@@ -85,8 +86,8 @@ codes_of r = record {
   longitude = field_of 0x800000 (place_of r.position).longitude;
   altitude = steps_or r.altitude 0xFFF;
   kind = track_number r.track_kind;
-  extrapolated = as_bit r.extrapolated;
-  airborne = as_bit r.airborne;
+  extrapolated = from_bool r.extrapolated;
+  airborne = from_bool r.airborne;
   speed = knots_or r.speed 0xFFE 0xFFF;
   climb = field_of 0x800 (climb_or r.climb (pos 510) (negsuc 509) (negsuc 2047));
 }

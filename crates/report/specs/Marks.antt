@@ -1,12 +1,9 @@
 -- Each field of a report and the number that stands for it in the bytes (001 §3.5.1.3 to §3.5.1.8, RULES 'Reports'). Marks are cases of their own.
 -- Assumes nothing.
-use Rattle.std.specs.Prelude.{ℕ, Bool, true, false, cond, ◌&&◌, eqb, ℤ, pos}
+use Rattle.std.specs.Prelude.{ℕ, Bool, cond, ◌&&◌, eqb, ℤ, pos, Option, Some, None, unwrap_or}
 use Rattle.numbers.specs.Signed.{signed_in}
 use Rattle.message_types.specs.declared.Position.{Position}
-use Rattle.message_types.specs.declared.Position.TheVariants.{At, None as no-position}
-use Rattle.report.specs.declared.Place.{Place}
-use Rattle.message_types.specs.declared.Altitude.{Altitude}
-use Rattle.message_types.specs.declared.Altitude.TheVariants.{Known, None as no-altitude}
+use Rattle.units.specs.declared.PressureSteps.{PressureSteps}
 use Rattle.message_types.specs.declared.Speed.{Speed}
 use Rattle.message_types.specs.declared.Speed.TheVariants.{Knots, Over, None as no-speed}
 use Rattle.message_types.specs.declared.Climb.{Climb}
@@ -16,28 +13,20 @@ use Rattle.message_types.specs.declared.Climb.TheVariants.{Steps, Above, Below, 
 abbrev pub none_mark : ℕ → ℕ → ℕ → Bool
 none_mark latitude longitude integrity = eqb latitude 0 && eqb longitude 0 && eqb integrity 0
 
-unfoldable pub position_of : ℕ → ℕ → ℕ → Position
+unfoldable pub position_of : ℕ → ℕ → ℕ → Option Position
 position_of latitude longitude integrity =
-    cond (none_mark latitude longitude integrity) no-position (At (signed_in 0x800000 latitude) (signed_in 0x800000 longitude))
+    cond (none_mark latitude longitude integrity) None
+    (Some (record { latitude = signed_in 0x800000 latitude; longitude = signed_in 0x800000 longitude }))
 
-abbrev pub is_none : Position → Bool
-is_none (At latitude longitude) = false
-is_none no-position = true
+abbrev pub place_of : Option Position → Position
+place_of p = unwrap_or p (record { latitude = pos 0; longitude = pos 0 })
 
-abbrev pub place_of : Position → Place
-place_of (At lat lon) = record { latitude = lat; longitude = lon }
-place_of no-position = record { latitude = pos 0; longitude = pos 0 }
-
-unfoldable pub altitude_of : ℕ → Altitude
-altitude_of d = cond (eqb d 0xFFF) no-altitude (Known (record { steps = d }))
+unfoldable pub altitude_of : ℕ → Option PressureSteps
+altitude_of d = cond (eqb d 0xFFF) None (Some (record { steps = d }))
 
 -- the plain number, or a number for each mark
-abbrev pub steps_or : Altitude → ℕ → ℕ
-steps_or (Known d) none = d.steps
-steps_or no-altitude none = none
-
-abbrev pub as_bit : Bool → ℕ
-as_bit b = cond b 1 0
+abbrev pub steps_or : Option PressureSteps → ℕ → ℕ
+steps_or a none = (unwrap_or a (record { steps = none })).steps
 
 unfoldable pub speed_of : ℕ → Speed
 speed_of h = cond (eqb h 0xFFF) no-speed (cond (eqb h 0xFFE) Over (Knots h))

@@ -4,14 +4,14 @@
 ghost use Rattle.std.specs.Prelude.{◌≡◌, ◌&&◌, ◌+◌, ◌-◌, ◌<◌, ◌≤◌, length};
 ghost use Rattle.codec.specs.Writing.{Wrote};
 ghost use Rattle.numbers.specs.Signed.{signed_in, field_of};
-ghost use Rattle.report.specs.Marks.{steps_or, knots_or, climb_or, place_of, is_none, none_mark, as_bit, altitude_of, speed_of, climb_of, position_of};
+ghost use Rattle.report.specs.Marks.{knots_or, climb_or, altitude_of, speed_of, climb_of, position_of};
 ghost use Rattle.c_report.specs.Flat.{position_mark, altitude_mark, altitude_steps, speed_mark, speed_knots, climb_mark, climb_steps, flat_report};
-ghost use Rattle.report.specs.Bytes.{three, three_at, twelve_high, high_at, twelve_low, low_at, codes_in, codes_of, call_sign_in, report_in, packed, report_bytes, ownship_bytes, traffic_bytes};
-ghost use Rattle.report.specs.Reading.{between, good_position, within_bits, good_report, report_refused, report_read, is_report_id, ownship_read, traffic_read};
+ghost use Rattle.report.specs.Bytes.{three_at, high_at, low_at, codes_in, codes_of, call_sign_in, report_in, packed, report_bytes, ownship_bytes, traffic_bytes};
+ghost use Rattle.report.specs.Reading.{between, good_position, within_bits, good_report, report_read, is_report_id, ownship_read, traffic_read};
 
-use c_report::{FlatReport, FlatReportRead};
-use codec::Written;
-use message_types::{Altitude, CallSign, Climb, Ownship, Position, Report, Speed, Traffic};
+use c_report::FlatReport;
+use message_types::{CallSign, Climb, Ownship, Position, Report, Speed, Traffic};
+use refusals::Refusal;
 use units::PressureSteps;
 
 // The ranges of RULES 'Reports': latitude from pole to pole, climb from -509 to 509, integrity and accuracy to 11.
@@ -27,60 +27,49 @@ const LAST_INTEGRITY: u8 = 11;
 
 const LAST_ACCURACY: u8 = 11;
 
-pub fn read_ownship(message: &[u8]) -> FlatReportRead
+pub fn read_ownship(message: &[u8]) -> Result<FlatReport, Refusal>
     ensures { result ≡ ownship_read message.now }
 {
-    read_report(message, Ownship::ID, Ownship::LENGTH)
+    read_report(message, Ownship::ID)
 }
 
-pub fn read_traffic(message: &[u8]) -> FlatReportRead
+pub fn read_traffic(message: &[u8]) -> Result<FlatReport, Refusal>
     ensures { result ≡ traffic_read message.now }
 {
-    read_report(message, Traffic::ID, Traffic::LENGTH)
+    read_report(message, Traffic::ID)
 }
 
 // Of either kind, both of which have 28 bytes.
-fn read_report(message: &[u8], id: u8, length: usize) -> FlatReportRead
-    requires { length ≡ 28 }
-    ensures { result ≡ report_read id length message.now }
+#[tactic(auto, unfolding(codec::specs::Reading::reading))]
+fn read_report(message: &[u8], id: u8) -> Result<FlatReport, Refusal>
+    ensures { result ≡ report_read id message.now }
 {
-    let number = report_number(message, id, length);
-    if number != 0 {
-        return report_refused(number);
+    let bytes = codec::fit(message, id)?;
+    if !holds_good_report(bytes) {
+        return Err(Refusal::BadField);
     }
-    let report = numbers_in(message);
-    FlatReportRead { number: 0, report }
-}
-
-fn report_number(message: &[u8], id: u8, length: usize) -> u8
-    requires { length ≡ 28 }
-    ensures { result ≡ (report_read id length message.now).number }
-{
-    let misfit = codec::misfit(message, id, length);
-    if misfit != 0 {
-        return misfit;
-    }
-    if holds_good_report(message) { 0 } else { 8 }
+    Ok(numbers_in(bytes))
 }
 
 // What the bytes can hold of a report that is not good: a latitude, a climb, an integrity or an accuracy outside its range.
-fn holds_good_report(message: &[u8]) -> bool
-    requires { length message.now ≡ 28 }
+fn holds_good_report(message: &[u8; 28]) -> bool
     ensures { result ≡ good_report (report_in message.now) }
 {
     let quality = message[13];
     let latitude = signed_in(three_at(message, 5), 0x800000);
-    let climb = climb_steps(low_at(message, 15));
+    let (_, climb) = climb_in(low_at(message, 15));
     (is_between(latitude, SOUTH_POLE, NORTH_POLE) & is_between(climb, LOWEST_CLIMB, HIGHEST_CLIMB))
         & ((quality / 16 <= LAST_INTEGRITY) & (quality % 16 <= LAST_ACCURACY))
 }
 
 // The report that the bytes hold, as a struct of numbers. A position that is none has latitude and longitude 0 in the bytes too.
-fn numbers_in(message: &[u8]) -> FlatReport
-    requires { length message.now ≡ 28 }
+fn numbers_in(message: &[u8; 28]) -> FlatReport
     ensures { result ≡ flat_report (report_in message.now) }
 {
     let codes = codes_in(message);
+    let (altitude_mark, altitude) = altitude_in(codes.altitude);
+    let (speed_mark, speed) = speed_in(codes.speed);
+    let (climb_mark, climb) = climb_in(codes.climb);
     let target = message[1];
     let quality = message[13];
     let last = message[27];
@@ -91,17 +80,17 @@ fn numbers_in(message: &[u8]) -> FlatReport
         position_mark: position_mark(codes.latitude, codes.longitude, quality / 16),
         latitude: signed_in(codes.latitude, 0x800000),
         longitude: signed_in(codes.longitude, 0x800000),
-        altitude_mark: altitude_mark(codes.altitude),
-        altitude: altitude_steps(codes.altitude),
+        altitude_mark,
+        altitude,
         track_kind: codes.kind,
         extrapolated: codes.extrapolated == 1,
         airborne: codes.airborne == 1,
         integrity: quality / 16,
         accuracy: quality % 16,
-        speed_mark: speed_mark(codes.speed),
-        speed: speed_knots(codes.speed),
-        climb_mark: climb_mark(codes.climb),
-        climb: climb_steps(codes.climb),
+        speed_mark,
+        speed,
+        climb_mark,
+        climb,
         track: message[17],
         emitter: message[18],
         call_sign: call_sign_in(message),
@@ -111,175 +100,123 @@ fn numbers_in(message: &[u8]) -> FlatReport
 }
 
 // A field's mark, and the number beside it, which is 0 with a mark.
+#[tactic(auto, unfolding(crate::specs::Marks::position_of))]
 fn position_mark(latitude: u32, longitude: u32, integrity: u8) -> u8
     ensures { result ≡ position_mark (position_of latitude longitude integrity) }
 {
-    if none_mark(latitude, longitude, integrity) {
+    if latitude == 0 && longitude == 0 && integrity == 0 {
         1
     } else {
         0
     }
 }
 
-fn altitude_mark(code: u16) -> u8
-    ensures { result ≡ altitude_mark (altitude_of code) }
+#[tactic(auto, unfolding(crate::specs::Marks::altitude_of))]
+fn altitude_in(code: u16) -> (u8, PressureSteps)
+    ensures { result ≡ (altitude_mark (altitude_of code), altitude_steps (altitude_of code)) }
 {
-    if code == 0xFFF { 1 } else { 0 }
+    match code {
+        0xFFF => (1, PressureSteps { steps: 0 }),
+        steps => (0, PressureSteps { steps }),
+    }
 }
 
-fn altitude_steps(code: u16) -> PressureSteps
-    ensures { result ≡ altitude_steps (altitude_of code) }
+#[tactic(auto, unfolding(crate::specs::Marks::speed_of))]
+fn speed_in(code: u16) -> (u8, u16)
+    ensures { result ≡ (speed_mark (speed_of code), speed_knots (speed_of code)) }
 {
-    if code == 0xFFF {
-        return PressureSteps { steps: 0 };
+    match code {
+        0xFFF => (1, 0),
+        0xFFE => (2, 0),
+        knots => (0, knots),
     }
-    PressureSteps { steps: code }
-}
-
-fn speed_mark(code: u16) -> u8
-    ensures { result ≡ speed_mark (speed_of code) }
-{
-    if code == 0xFFF {
-        return 1;
-    }
-    if code == 0xFFE { 2 } else { 0 }
-}
-
-fn speed_knots(code: u16) -> u16
-    ensures { result ≡ speed_knots (speed_of code) }
-{
-    if code == 0xFFF {
-        return 0;
-    }
-    if code == 0xFFE { 0 } else { code }
 }
 
 // The climb's marks are 0x1FE, 0xE02 and 0x800.
-fn climb_mark(code: u32) -> u8
-    ensures { result ≡ climb_mark (climb_of code) }
+#[tactic(auto, unfolding(crate::specs::Marks::climb_of))]
+fn climb_in(code: u32) -> (u8, i32)
+    ensures { result ≡ (climb_mark (climb_of code), climb_steps (climb_of code)) }
 {
-    if code == 0x800 {
-        return 1;
+    match code {
+        0x800 => (1, 0),
+        0x1FE => (2, 0),
+        0xE02 => (3, 0),
+        steps => (0, signed_in(steps, 0x800)),
     }
-    if code == 0x1FE {
-        return 2;
-    }
-    if code == 0xE02 { 3 } else { 0 }
 }
 
-fn climb_steps(code: u32) -> i32
-    ensures { result ≡ climb_steps (climb_of code) }
-{
-    if climb_mark(code) == 0 {
-        return signed_in(code, 0x800);
-    }
-    0
-}
-
-fn report_refused(number: u8) -> FlatReportRead
-    ensures { result ≡ report_refused number }
-{
-    let report = FlatReport {
-        alert: 0,
-        address_type: 0,
-        address: 0,
-        position_mark: 0,
-        latitude: 0,
-        longitude: 0,
-        altitude_mark: 0,
-        altitude: PressureSteps { steps: 0 },
-        track_kind: 0,
-        extrapolated: false,
-        airborne: false,
-        integrity: 0,
-        accuracy: 0,
-        speed_mark: 0,
-        speed: 0,
-        climb_mark: 0,
-        climb: 0,
-        track: 0,
-        emitter: 0,
-        call_sign: CallSign(0, 0, 0, 0, 0, 0, 0, 0),
-        priority: 0,
-        spare: 0,
-    };
-    FlatReportRead { number, report }
-}
-
-pub fn write_ownship(ownship: Ownship, out: &mut [u8]) -> Written
+pub fn write_ownship(ownship: Ownship, out: &mut [u8]) -> Result<usize, Refusal>
     ensures { Wrote (good_report ownship.report) (ownship_bytes ownship) out.old result out.new }
 {
-    let report = ownship.report;
-    write_report(Ownship::ID, report, out)
+    write_report(Ownship::ID, ownship.report, out)
 }
 
-pub fn write_traffic(traffic: Traffic, out: &mut [u8]) -> Written
+pub fn write_traffic(traffic: Traffic, out: &mut [u8]) -> Result<usize, Refusal>
     ensures { Wrote (good_report traffic.report) (traffic_bytes traffic) out.old result out.new }
 {
-    let report = traffic.report;
-    write_report(Traffic::ID, report, out)
+    write_report(Traffic::ID, traffic.report, out)
 }
 
 // Of either kind: an id that is neither's is a field outside its range.
-pub fn write_report(id: u8, report: Report, out: &mut [u8]) -> Written
+pub fn write_report(id: u8, report: Report, out: &mut [u8]) -> Result<usize, Refusal>
     ensures { Wrote (is_report_id id && good_report report) (report_bytes id report) out.old result out.new }
 {
-    if is_report_id(id) & is_good_report(report) {
-        let codes = codes_of(report);
-        let bytes = packed_report(id, report, codes);
-        codec::put(&bytes, out)
-    } else {
-        Written::Refused(8)
+    if !is_report_id(id) || !is_good_report(report) {
+        return Err(Refusal::BadField);
     }
+    let codes = codes_of(report);
+    let bytes = packed_report(id, report, codes);
+    codec::put(&bytes, out)
 }
 
 fn is_report_id(id: u8) -> bool
     ensures { result ≡ is_report_id id }
 {
-    (id == Ownship::ID) | (id == Traffic::ID)
+    matches!(id, Ownship::ID | Traffic::ID)
 }
 
+#[tactic(auto, unfolding(crate::specs::Reading::good_report))]
 fn is_good_report(report: Report) -> bool
     ensures { result ≡ good_report report }
 {
-    let position = report.position;
-    let altitude = report.altitude;
-    let speed = report.speed;
-    let climb = report.climb;
-    is_good_position(position, report.integrity)
-        & (steps_or(altitude, 0) < 0xFFF)
-        & (knots_or(speed, 0, 0) < 0xFFE)
-        & is_between(climb_or(climb, 0, 0, 0), LOWEST_CLIMB, HIGHEST_CLIMB)
-        & is_within_bits(report)
+    is_good_position(report.position, report.integrity)
+        && report.altitude.unwrap_or(PressureSteps { steps: 0 }).steps < 0xFFF
+        && knots_or(report.speed, 0, 0) < 0xFFE
+        && is_between(climb_or(report.climb, 0, 0, 0), LOWEST_CLIMB, HIGHEST_CLIMB)
+        && is_within_bits(report)
 }
 
 fn is_within_bits(report: Report) -> bool
     ensures { result ≡ within_bits report }
 {
-    (report.integrity <= LAST_INTEGRITY)
-        & (report.accuracy <= LAST_ACCURACY)
-        & (report.alert < 16)
-        & (report.address_type < 16)
-        & (report.address < 0x1000000)
-        & (report.priority < 16)
-        & (report.spare < 16)
+    report.integrity <= LAST_INTEGRITY
+        && report.accuracy <= LAST_ACCURACY
+        && report.alert < 16
+        && report.address_type < 16
+        && report.address < 0x1000000
+        && report.priority < 16
+        && report.spare < 16
 }
 
 // None exactly if latitude, longitude and integrity are all 0.
-fn is_good_position(position: Position, integrity: u8) -> bool
+#[tactic(auto, unfolding(crate::specs::Reading::good_position))]
+fn is_good_position(position: Option<Position>, integrity: u8) -> bool
     ensures { result ≡ good_position position integrity }
 {
-    let at = place_of(position);
-    let none = is_between(at.latitude, 0, 0) & is_between(at.longitude, 0, 0) & (integrity == 0);
-    is_between(at.latitude, SOUTH_POLE, NORTH_POLE)
-        & is_between(at.longitude, -8388608, 8388607)
-        & (is_none(position) == none)
+    match position {
+        None => integrity == 0,
+        Some(at) => {
+            is_between(at.latitude, SOUTH_POLE, NORTH_POLE)
+                && is_between(at.longitude, -8388608, 8388607)
+                && (at.latitude != 0 || at.longitude != 0 || integrity != 0)
+        }
+    }
 }
 
 fn is_between(n: i32, low: i32, high: i32) -> bool
     ensures { result ≡ between low high n }
 {
-    (low <= n) & (n <= high)
+    (low..=high).contains(&n)
 }
 
 // The numbers that stand in the bytes for the fields with a sign, a mark or a name.
@@ -295,8 +232,7 @@ struct Codes {
     climb: u32,
 }
 
-fn codes_in(message: &[u8]) -> Codes
-    requires { length message.now ≡ 28 }
+fn codes_in(message: &[u8; 28]) -> Codes
     ensures { result ≡ codes_in message.now }
 {
     let indicators = message[12];
@@ -312,24 +248,27 @@ fn codes_in(message: &[u8]) -> Codes
     }
 }
 
+#[tactic(auto, unfolding(crate::specs::Bytes::codes_of))]
 fn codes_of(report: Report) -> Codes
     ensures { result ≡ codes_of report }
 {
-    let position = report.position;
-    let altitude = report.altitude;
-    let kind = report.track_kind;
-    let speed = report.speed;
-    let climb = report.climb;
-    let at = place_of(position);
+    let nowhere = Position {
+        latitude: 0,
+        longitude: 0,
+    };
+    let at = report.position.unwrap_or(nowhere);
     Codes {
         latitude: field_of(at.latitude, 0x800000),
         longitude: field_of(at.longitude, 0x800000),
-        altitude: steps_or(altitude, 0xFFF),
-        kind: c_report::track_number(kind),
-        extrapolated: bit_of(report.extrapolated),
-        airborne: bit_of(report.airborne),
-        speed: knots_or(speed, 0xFFE, 0xFFF),
-        climb: field_of(climb_or(climb, 510, -510, -2048), 0x800),
+        altitude: report
+            .altitude
+            .unwrap_or(PressureSteps { steps: 0xFFF })
+            .steps,
+        kind: c_report::track_number(report.track_kind),
+        extrapolated: u8::from(report.extrapolated),
+        airborne: u8::from(report.airborne),
+        speed: knots_or(report.speed, 0xFFE, 0xFFF),
+        climb: field_of(climb_or(report.climb, 510, -510, -2048), 0x800),
     }
 }
 
@@ -337,18 +276,21 @@ fn packed_report(id: u8, report: Report, c: Codes) -> [u8; 28]
     ensures { result ≡ packed id report c }
 {
     let sign = report.call_sign;
+    let [_, address0, address1, address2] = report.address.to_be_bytes();
+    let [_, latitude0, latitude1, latitude2] = c.latitude.to_be_bytes();
+    let [_, longitude0, longitude1, longitude2] = c.longitude.to_be_bytes();
     [
         id,
         report.alert % 16 * 16 + report.address_type % 16,
-        (report.address / 65536 % 256) as u8,
-        (report.address / 256 % 256) as u8,
-        (report.address % 256) as u8,
-        (c.latitude / 65536 % 256) as u8,
-        (c.latitude / 256 % 256) as u8,
-        (c.latitude % 256) as u8,
-        (c.longitude / 65536 % 256) as u8,
-        (c.longitude / 256 % 256) as u8,
-        (c.longitude % 256) as u8,
+        address0,
+        address1,
+        address2,
+        latitude0,
+        latitude1,
+        latitude2,
+        longitude0,
+        longitude1,
+        longitude2,
         (c.altitude / 16 % 256) as u8,
         (c.altitude % 16 * 16) as u8 + (c.airborne % 2 * 8 + c.extrapolated % 2 * 4 + c.kind % 4),
         report.integrity % 16 * 16 + report.accuracy % 16,
@@ -369,8 +311,7 @@ fn packed_report(id: u8, report: Report, c: Codes) -> [u8; 28]
     ]
 }
 
-fn call_sign_in(message: &[u8]) -> CallSign
-    requires { length message.now ≡ 28 }
+fn call_sign_in(message: &[u8; 28]) -> CallSign
     ensures { result ≡ call_sign_in message.now }
 {
     CallSign(
@@ -386,102 +327,26 @@ fn call_sign_in(message: &[u8]) -> CallSign
 }
 
 // Three bytes, high first.
-fn three_at(message: &[u8], at: usize) -> u32
-    requires { at + 2 < length message.now }
+fn three_at(message: &[u8; 28], at: usize) -> u32
+    requires { at + 2 < 28 }
     ensures { result ≡ three_at message.now at }
 {
-    three_bytes(message[at], message[at + 1], message[at + 2])
-}
-
-fn three_bytes(a: u8, b: u8, c: u8) -> u32
-    ensures { result ≡ three a b c }
-{
-    (a as u32) * 65536 + (b as u32) * 256 + (c as u32)
+    u32::from_be_bytes([0, message[at], message[at + 1], message[at + 2]])
 }
 
 // Twelve bits, high first: a byte and the next one's high half, or a byte's low half and the next one.
-fn high_at(message: &[u8], at: usize) -> u16
-    requires { at + 1 < length message.now }
+fn high_at(message: &[u8; 28], at: usize) -> u16
+    requires { at + 1 < 28 }
     ensures { result ≡ high_at message.now at }
 {
-    twelve_high(message[at], message[at + 1])
+    u16::from_be_bytes([message[at], message[at + 1]]) / 16
 }
 
-fn low_at(message: &[u8], at: usize) -> u32
-    requires { at + 1 < length message.now }
+fn low_at(message: &[u8; 28], at: usize) -> u32
+    requires { at + 1 < 28 }
     ensures { result ≡ low_at message.now at }
 {
-    twelve_low(message[at], message[at + 1])
-}
-
-fn twelve_high(a: u8, b: u8) -> u16
-    ensures { result ≡ twelve_high a b }
-{
-    (a as u16) * 16 + (b as u16) / 16
-}
-
-fn twelve_low(a: u8, b: u8) -> u32
-    ensures { result ≡ twelve_low a b }
-{
-    (a as u32) % 16 * 256 + (b as u32)
-}
-
-fn none_mark(latitude: u32, longitude: u32, integrity: u8) -> bool
-    ensures { result ≡ none_mark latitude longitude integrity }
-{
-    (latitude == 0) & (longitude == 0) & (integrity == 0)
-}
-
-#[derive(Clone, Copy)]
-struct Place {
-    latitude: i32,
-    longitude: i32,
-}
-
-// 0, 0 where there is none.
-fn place_of(position: Position) -> Place
-    ensures { result ≡ place_of position }
-{
-    match position {
-        Position::At {
-            latitude,
-            longitude,
-        } => Place {
-            latitude,
-            longitude,
-        },
-        Position::None => Place {
-            latitude: 0,
-            longitude: 0,
-        },
-    }
-}
-
-fn is_none(position: Position) -> bool
-    ensures { result ≡ is_none position }
-{
-    match position {
-        Position::At {
-            latitude: _,
-            longitude: _,
-        } => false,
-        Position::None => true,
-    }
-}
-
-fn steps_or(altitude: Altitude, none: u16) -> u16
-    ensures { result ≡ steps_or altitude none }
-{
-    match altitude {
-        Altitude::Known(p) => p.steps,
-        Altitude::None => none,
-    }
-}
-
-fn bit_of(b: bool) -> u8
-    ensures { result ≡ as_bit b }
-{
-    if b { 1 } else { 0 }
+    (u16::from_be_bytes([message[at], message[at + 1]]) % 4096) as u32
 }
 
 fn knots_or(speed: Speed, over: u16, none: u16) -> u16
@@ -514,7 +379,7 @@ fn signed_in(field: u32, half: u32) -> i32
     if field < half {
         return field as i32;
     }
-    !(less(2 * half - 1, field) as i32)
+    !((2 * half - 1).saturating_sub(field) as i32)
 }
 
 fn field_of(n: i32, half: u32) -> u32
@@ -523,14 +388,7 @@ fn field_of(n: i32, half: u32) -> u32
     ensures { result ≡ field_of half n }
 {
     if n < 0 {
-        return less(2 * half - 1, (!n) as u32);
+        return (2 * half).saturating_sub(n.unsigned_abs());
     }
-    n as u32
-}
-
-// 0 where b is more than a.
-fn less(a: u32, b: u32) -> u32
-    ensures { result ≡ a - b }
-{
-    if a < b { 0 } else { a - b }
+    n.unsigned_abs()
 }

@@ -12,21 +12,21 @@ use refusals::Refusal;
 
 // Pressure altitude in steps of 25 feet, from 1,000 feet below zero on.
 #[repr(C)]
-#[derive(Clone, Copy)]
+#[derive(Clone, Copy, Debug, Default, PartialEq, Eq)]
 pub struct PressureSteps {
     pub steps: u16,
 }
 
 // Geometric altitude, 5 feet a step.
 #[repr(C)]
-#[derive(Clone, Copy)]
+#[derive(Clone, Copy, Debug, Default, PartialEq, Eq)]
 pub struct GeometricSteps {
     pub steps: i16,
 }
 
 // Height above terrain in feet.
 #[repr(C)]
-#[derive(Clone, Copy)]
+#[derive(Clone, Copy, Debug, Default, PartialEq, Eq)]
 pub struct TerrainFeet {
     pub feet: i16,
 }

@@ -9,7 +9,7 @@ use Rattle.report.proofs.codes_of.Goals as goal
 pub returns : goal.returns
 unfolding codes_of
 returns c =
-    let at = c.place_of-at.ensures in
+    let at = c.unwrap_or-at.ensures in
     let latitude = back32 _ c.struct_told-1.given.0.1 ∙ (λ i. (at i).latitude) in
     let longitude = back32 _ c.struct_told-1.given.1.0.1 ∙ (λ i. (at i).longitude) in
     let climb = back32 _ c.climb_or.type_inv ∙ c.climb_or.ensures in
@@ -19,10 +19,10 @@ returns c =
     λ i. record {
       latitude = lat i;
       longitude = lon i;
-      altitude = c.steps_or.ensures i;
+      altitude = (c.unwrap_or.ensures i).steps;
       kind = c.track_number.ensures i;
-      extrapolated = c.bit_of.ensures i;
-      airborne = c.bit_of-2.ensures i;
+      extrapolated = c.from.ensures i;
+      airborne = c.from-2.ensures i;
       speed = c.knots_or.ensures i;
       climb = vert i;
     }

@@ -12,4 +12,4 @@ pub returns-then-field-half : goal.returns-then-field-half
 returns-then-field-half c = low w32 _ _ c.if-field-half.true (omega (arith, c.requires.half_bound))
 
 pub returns : goal.returns
-returns c = ap (λ (d : ℕ). to_z w32 (4294967295 - d)) c.less.ensures ∙ high w32 _ _ c.if-field-half.false (omega (arith, c.requires.half_bound))
+returns c = ap (λ (d : ℕ). to_z w32 (4294967295 - d)) c.saturating_sub.ensures ∙ high w32 _ _ c.if-field-half.false (omega (arith, c.requires.half_bound))
