@@ -2,12 +2,12 @@
 -- Assumes nothing.
 use mathlib.Core.Path.{◌≡◌, refl, ap, ◌∙◌}
 use mathlib.Core.Bool.{Bool, true, false}
-use Prim.Native.Nat.{ℕ, ◌-◌, ◌^◌, ◌<◌}
+use Prim.Native.Nat.{ℕ, ◌-◌, ◌*◌, ◌<◌, ◌≤◌}
 use native.Mathlib.Omega.{arith}
 use lib.Dec.{ltb}
 use lib.IntN.{ℤ, pos, negsuc}
 use borrow.Author.Tests.{ltb-true, ltb-false}
-use Rattle.std.specs.Int.{w16, bits, cast_signed, cast_unsigned}
+use Rattle.std.specs.Int.{w16, cast_signed, cast_unsigned}
 use Rattle.numbers.specs.Signed.{signed_in, field_of}
 use Rattle.numbers.proofs.Signed.{low, high}
 
@@ -18,7 +18,7 @@ signed n h = go (ltb n 0x8000) refl
     go true e = low w16 0x8000 n (ltb-true n 0x8000 e) (omega arith)
     go false e =
         let above : 0x8000 ≤ n = ltb-false n 0x8000 e in
-        let twice : n ≡ 2 ^ bits w16 - 1 - (2 * 0x8000 - 1 - n) = omega arith in
+        let twice : n ≡ 0xFFFF - (2 * 0x8000 - 1 - n) = omega arith in
         ap (cast_signed w16) twice ∙ high w16 0x8000 n above (omega arith)
 
 pub field : (z : ℤ) → cast_unsigned w16 z ≡ field_of 0x8000 z

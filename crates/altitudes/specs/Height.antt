@@ -19,7 +19,7 @@ abbrev pub good_height : Option TerrainFeet → Bool
 good_height (Some h) = not (eqb (field_of 0x8000 h.feet) 0x8000)
 good_height None = true
 
-unfoldable pub terrain_in : List ℕ → Option TerrainFeetAboveTerrain
+unfoldable pub terrain_in : List ℕ → HeightAboveTerrain
 terrain_in m = record { height = height_of (256 * get_or m 1 0 + get_or m 2 0) }
 
 unfoldable pub terrain_bytes : HeightAboveTerrain → List ℕ

@@ -17,7 +17,10 @@ pub fn read_initialization(message: &[u8]) -> Result<Initialization, Refusal>
     Ok(Initialization { first, second })
 }
 
-pub fn write_initialization(initialization: Initialization, out: &mut [u8]) -> Result<usize, Refusal>
+pub fn write_initialization(
+    initialization: Initialization,
+    out: &mut [u8],
+) -> Result<usize, Refusal>
     ensures { Wrote (good_initialization initialization) (initialization_bytes initialization) out.old result out.new }
 {
     let bytes = [

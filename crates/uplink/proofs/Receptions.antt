@@ -6,15 +6,14 @@ use Prim.Native.Nat.{ℕ, ◌+◌, ◌*◌, ◌/◌, ◌%◌, ◌<◌}
 use native.Mathlib.Omega.{arith}
 use borrow.Author.Tests.{leb-true, ne_eqb}
 use Rattle.numbers.proofs.Every.{chosen}
-use Rattle.message_types.specs.declared.Reception.{Reception}
-use Rattle.message_types.specs.declared.Reception.TheVariants.{Steps, None}
+use Rattle.std.specs.Prelude.{Option, Some, None}
 use Rattle.uplink.specs.Reception.{reception_of, last_step, good_reception, reception_number}
 
 -- a good time is read back
-pub kept : (r : Reception) → good_reception r ≡ true
+pub kept : (r : Option ℕ) → good_reception r ≡ true
     → reception_of (reception_number r % 256) (reception_number r / 256 % 256) (reception_number r / 65536 % 256) ≡ r
 unfolding reception_of
-kept (Steps n) g =
+kept (Some n) g =
     let h = leb-true n last_step g in
     let e : n / 65536 % 256 * 65536 + n / 256 % 256 * 256 + n % 256 ≡ n = omega arith in
     simp (e, ne_eqb n 0xFFFFFF (λ p. omega arith))

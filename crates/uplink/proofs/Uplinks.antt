@@ -7,35 +7,21 @@ use native.Mathlib.Omega.{arith}
 use lib.ListN.{length, drop, get_or}
 use lib.Seq.{take_all}
 use borrow.Author.Tests.{eq-eqb, ne_eqb}
-use Rattle.numbers.specs.Lent.{written}
 use Rattle.numbers.proofs.Bytes.{byte_at}
-use Rattle.codec.specs.declared.Written.{Written}
-use Rattle.codec.specs.declared.Written.TheVariants.{Refused as RefusedWriting}
-use Rattle.codec.specs.Reading.{misfit, reading}
-use Rattle.codec.proofs.Outcomes.{accepted_as}
-use Rattle.codec.specs.Writing.{Wrote}
+use Rattle.std.specs.Prelude.{Ok}
+use Rattle.codec.specs.Reading.{fit, reading}
+use Rattle.codec.proofs.Outcomes.{accepted}
 use Rattle.message_types.specs.declared.Uplink.{Uplink}
-use Rattle.message_types.specs.declared.UplinkRead.{UplinkRead}
-use Rattle.uplink.specs.Uplink.{uplink_in, good_uplink, uplink_bytes, uplink_refused, uplink_read, writing_uplink, WroteUplink}
+use Rattle.uplink.specs.Uplink.{uplink_in, good_uplink, uplink_bytes, read_uplink}
 use Rattle.uplink.specs.Claims.{UplinkWrittenRead, UplinkReadWritten}
 use Rattle.uplink.proofs.Receptions.{kept, number_in, bytes_back}
 
 -- what is read as an uplink is as long as one
-pub sized : (m : List ℕ) {r : UplinkRead} → r ≡ uplink_read m → r.number ≡ 0 → length m ≡ 436
-sized m e f =
-    (accepted_as 7 436 uplink_in good_uplink (λ u. record { number = 0; uplink = u }) uplink_refused m (λ r. r.number) (λ k. refl) (ap (λ (x : UplinkRead). x.number) (sym e) ∙ f)).0.1
-
-module _ (u : Uplink) (payload out : List ℕ) where
-  pub other_size : (length payload ≡ 432 → ⊥) → WroteUplink u payload out (RefusedWriting 7) out
-  unfolding writing_uplink written
-  other_size h = record { answers = simp (ne_eqb (length payload) 432 h); leaves = refl }
-
-  pub right_size : {r : Written} {left : List ℕ} → length payload ≡ 432 → Wrote (good_uplink u) (uplink_bytes u payload) out r left → WroteUplink u payload out r left
-  unfolding writing_uplink
-  right_size h w = record { answers = simp (eq-eqb (length payload) 432 h) w.answers; leaves = w.leaves }
+pub sized : (m : List ℕ) {u : Uplink} → Ok u ≡ read_uplink m → length m ≡ 436
+sized m e = (accepted 7 436 uplink_in good_uplink m (sym e)).0.1
 
 pub written_read : UplinkWrittenRead
-unfolding reading misfit
+unfolding reading fit
 written_read u payload g h =
     let e = kept u.reception g in
     let long : length (uplink_bytes u payload) ≡ 436 = omega arith in

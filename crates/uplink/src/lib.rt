@@ -1,43 +1,27 @@
 // The uplink message (001 §3.3; RULES 'Uplink'): its time of reception, and its payload as a part of it.
 #![tactic(auto)]
 
-ghost use Rattle.std.specs.Prelude.{◌≡◌, ◌≤◌, length};
+ghost use Rattle.std.specs.Prelude.{◌≡◌};
 ghost use Rattle.uplink.specs.Reception.{reception_of, reception_in, good_reception, reception_number};
-ghost use Rattle.uplink.specs.Uplink.{head_bytes, uplink_refused, uplink_read, PayloadPart, WroteUplink};
+ghost use Rattle.uplink.specs.Uplink.{head_bytes, read_uplink, PayloadPart, WroteUplink};
 
-use codec::Written;
-use message_types::{Reception, Uplink, UplinkRead};
+use message_types::Uplink;
+use refusals::Refusal;
 
 // 001 §3.3.1: the last step of a second, and the mark of none.
 const LAST_STEP: u32 = 12499999;
 
 const NO_STEP: u32 = 0xFFFFFF;
 
-pub fn read_uplink(message: &[u8]) -> UplinkRead
-    ensures { result ≡ uplink_read message.now }
+#[tactic(auto, unfolding(codec::specs::Reading::reading))]
+pub fn read_uplink(message: &[u8]) -> Result<Uplink, Refusal>
+    ensures { result ≡ read_uplink message.now }
 {
-    let misfit = codec::misfit(message, Uplink::ID, Uplink::LENGTH);
-    if misfit != 0 {
-        return uplink_refused(misfit);
-    }
-    let reception = reception_in(message);
+    let reception = reception_in(codec::fit(message, Uplink::ID)?);
     if is_good_reception(reception) {
-        UplinkRead {
-            number: 0,
-            uplink: Uplink { reception },
-        }
+        Ok(Uplink { reception })
     } else {
-        uplink_refused(8)
-    }
-}
-
-fn uplink_refused(number: u8) -> UplinkRead
-    ensures { result ≡ uplink_refused number }
-{
-    let reception = Reception::Steps(0);
-    UplinkRead {
-        number,
-        uplink: Uplink { reception },
+        Err(Refusal::BadField)
     }
 }
 
@@ -45,77 +29,57 @@ fn uplink_refused(number: u8) -> UplinkRead
 pub fn payload<'a>(message: &'a [u8]) -> &'a [u8]
     ensures { PayloadPart message.now message.entry.ref_ptr result.now result.ref_ptr }
 {
-    let read = read_uplink(message);
-    if read.number != 0 {
-        return &message[0..0];
+    match read_uplink(message) {
+        Ok(_) => &message[4..],
+        Err(_) => &message[..0],
     }
-    &message[4..]
 }
 
-pub fn write_uplink(uplink: Uplink, payload: &[u8], out: &mut [u8]) -> Written
+#[tactic(auto, unfolding(crate::specs::Uplink::writing_uplink, codec::specs::Writing::writing, numbers::specs::Lent::written))]
+pub fn write_uplink(uplink: Uplink, payload: &[u8], out: &mut [u8]) -> Result<usize, Refusal>
     ensures { WroteUplink uplink payload.now out.old result out.new }
 {
     if payload.len() != 432 {
-        return Written::Refused(7);
+        return Err(Refusal::WrongLength);
     }
-    let reception = uplink.reception;
-    if !is_good_reception(reception) {
-        return Written::Refused(8);
+    if !is_good_reception(uplink.reception) {
+        return Err(Refusal::BadField);
     }
     if out.len() < Uplink::LENGTH {
-        return Written::Refused(9);
+        return Err(Refusal::NoRoom);
     }
-    let head = head_of(reception);
-    codec::put(&head, out);
-    codec::put(payload, &mut out[4..]);
-    Written::Bytes(Uplink::LENGTH)
+    out[..4].copy_from_slice(&head_of(uplink.reception));
+    out[4..Uplink::LENGTH].copy_from_slice(payload);
+    Ok(Uplink::LENGTH)
 }
 
-fn reception_in(message: &[u8]) -> Reception
-    requires { 4 ≤ length message.now }
-    ensures { result ≡ reception_in message.now }
+fn reception_in(bytes: &[u8; Uplink::LENGTH]) -> Option<u32>
+    ensures { result ≡ reception_in bytes.now }
 {
-    reception_of(message[1], message[2], message[3])
+    reception_of(bytes[1], bytes[2], bytes[3])
 }
 
-fn reception_of(low: u8, middle: u8, high: u8) -> Reception
+#[tactic(auto, unfolding(crate::specs::Reception::reception_of))]
+fn reception_of(low: u8, middle: u8, high: u8) -> Option<u32>
     ensures { result ≡ reception_of low middle high }
 {
-    let steps = (high as u32) * 65536 + (middle as u32) * 256 + (low as u32);
-    if steps == NO_STEP {
-        Reception::None
-    } else {
-        Reception::Steps(steps)
-    }
+    let steps = u32::from_le_bytes([low, middle, high, 0]);
+    if steps == NO_STEP { None } else { Some(steps) }
 }
 
-fn is_good_reception(reception: Reception) -> bool
+fn is_good_reception(reception: Option<u32>) -> bool
     ensures { result ≡ good_reception reception }
 {
-    let Reception::Steps(steps) = reception else {
-        return true;
-    };
-    steps <= LAST_STEP
+    match reception {
+        Some(steps) => steps <= LAST_STEP,
+        None => true,
+    }
 }
 
 // What stands before the payload.
-fn head_of(reception: Reception) -> [u8; 4]
+fn head_of(reception: Option<u32>) -> [u8; 4]
     ensures { result ≡ head_bytes reception }
 {
-    let n = number_of(reception);
-    [
-        Uplink::ID,
-        (n % 256) as u8,
-        (n / 256 % 256) as u8,
-        (n / 65536 % 256) as u8,
-    ]
-}
-
-fn number_of(reception: Reception) -> u32
-    ensures { result ≡ reception_number reception }
-{
-    match reception {
-        Reception::Steps(steps) => steps,
-        Reception::None => NO_STEP,
-    }
+    let [low, middle, high, _] = reception.unwrap_or(NO_STEP).to_le_bytes();
+    [Uplink::ID, low, middle, high]
 }

@@ -1,23 +1,20 @@
 -- `uplink::payload` meets its contract: what is read as an uplink has 436 bytes.
 -- Assumes nothing.
-use Rattle.uplink.proofs.Uplinks.{sized}
-use lib.ListN.{length, take, drop}
+use mathlib.Core.Path.{◌≡◌, refl, sym, ap, ◌∙◌}
 use Prim.Native.Nat.{ℕ, ◌-◌}
 use native.Mathlib.Omega.{arith}
-use mathlib.Core.Path.{◌≡◌, refl, ap}
-use borrow.Author.Tests.{eq-eqb}
+use lib.ListN.{length, take, drop}
+use Rattle.uplink.proofs.Uplinks.{sized}
 use Rattle.uplink.proofs.payload.Goals as goal
 
-pub slice_bounds-result-count-2 : goal.slice_bounds-result-count-2
-slice_bounds-result-count-2 c =
-    omega (arith, sized _ c.read_uplink-read.ensures c.if-read-ne0.false)
+pub slice_bounds-result-count : goal.slice_bounds-result-count
+slice_bounds-result-count c = omega (arith, sized _ (sym c.in-Ok.is ∙ c.read_uplink.ensures))
 
-pub slice_bounds-result-start-2 : goal.slice_bounds-result-start-2
-slice_bounds-result-start-2 c =
-    omega (arith, sized _ c.read_uplink-read.ensures c.if-read-ne0.false)
+pub slice_bounds-result-start : goal.slice_bounds-result-start
+slice_bounds-result-start c = omega (arith, sized _ (sym c.in-Ok.is ∙ c.read_uplink.ensures))
 
-pub returns : goal.returns
-returns c =
+pub returns-in-Ok : goal.returns-in-Ok
+returns-in-Ok c =
     let m = c.args.message.now in
-    let size : length m - 4 ≡ 432 = omega (arith, sized _ c.read_uplink-read.ensures c.if-read-ne0.false) in
-    rw (← c.read_uplink-read.ensures, eq-eqb _ 0 c.if-read-ne0.false) (record { holds = ap (λ (n : ℕ). take n (drop 4 m)) size; stands = refl })
+    let size : length m - 4 ≡ 432 = omega (arith, sized _ (sym c.in-Ok.is ∙ c.read_uplink.ensures)) in
+    rw (← c.read_uplink.ensures, c.in-Ok.is) (record { holds = ap (λ (n : ℕ). take n (drop 4 m)) size; stands = refl })
