@@ -76,20 +76,20 @@ impl<'a> Codes<'a> {
         if code == 0 {
             return Ok(None);
         }
+        // a tab's next code counts spaces
         if code == TAB {
             let Some((times, rest)) = rest.next_code() else {
                 return Err(Refusal::NoCharacter);
             };
             return Ok(Some((Run { byte: b' ', times }, rest)));
         }
-        let byte = character(code as u32);
-        if byte == 0 {
-            return Err(Refusal::NoCharacter);
+        match character(code as u32) {
+            0 => Err(Refusal::NoCharacter),
+            byte => Ok(Some((Run { byte, times: 1 }, rest))),
         }
-        Ok(Some((Run { byte, times: 1 }, rest)))
     }
 
-    // The next code, and what is left behind it. Leftover bits are not read.
+    // The next code of six bits, high bit first, and what is left behind it; leftover bits are not read.
     fn next_code(self) -> Option<(u8, Codes<'a>)>
         ensures { NextCode self.entry result }
     {
