@@ -29,7 +29,7 @@ use Rattle.uplink.specs.Reception.{good_reception}
 use Rattle.uplink.specs.Uplink.{uplink_in, good_uplink, uplink_bytes, uplink_refused, writing_uplink}
 use Rattle.uplink.proofs.Uplinks as uplinks
 use Rattle.report.specs.Bytes.{report_in, report_bytes}
-use Rattle.report.specs.Reading.{good_report, report_accepted, report_refused}
+use Rattle.report.specs.Reading.{good_report, in_numbers, report_read}
 use Rattle.report.proofs.Marked.{kind_code, kind_fits}
 use Rattle.report.proofs.Laws as reports
 use Rattle.c_structs.specs.declared.FlatUplink.{FlatUplink}
@@ -42,7 +42,7 @@ use Rattle.c_report.specs.Flat.{track_number, flat_report, report_from}
 use Rattle.c_report.proofs.Laws.{report_there_and_back}
 use Rattle.messages.specs.Message.{kind_of, kind_number}
 use Rattle.messages.proofs.Retired.{id_of_retired, kind_of_retired}
-use Rattle.gdl90.specs.Messages.{kind_answer, uplink_answer, AnsweredWriting, good_flat_report}
+use Rattle.gdl90.specs.Messages.{report_answer, kind_answer, uplink_answer, AnsweredWriting, good_flat_report}
 use Rattle.c_laws.specs.Zeroed.{beside, zeroed_uplink, zeroed_height, zeroed_geometric, zeroed_report}
 use Rattle.c_laws.specs.Claims.{Any, RoundTrip, RoundTrips, RetiredKind, UnknownIn, position, altitude, track, speed, climb, UnknownMarks}
 use Rattle.c_laws.proofs.Fields as fields
@@ -91,10 +91,10 @@ report_fine f g =
 -- an ownship's and a traffic report's
 report_trip : (id : ℕ) → kind_number (kind_of id) ≡ 0
     → RoundTrip id FlatReport Any (λ f. AnsweredWriting (good_flat_report f) (report_bytes id (report_from f)))
-    (λ m. (reading id 28 report_in good_report report_accepted report_refused m).number) (λ m. (reading id 28 report_in good_report report_accepted report_refused m).report) zeroed_report
-unfolding misfit report_bytes
+    (λ m. (report_answer (report_read id m)).number) (λ m. (report_answer (report_read id m)).report) zeroed_report
+unfolding fit report_bytes
 report_trip id known =
-    kind_trip id 28 report_in good_report report_accepted report_refused (λ r. r.number) (λ k. refl) (λ r. refl) (λ r. r.report) flat_report (λ r. refl)
+    kind_trip id 28 report_in good_report (λ r. (report_answer (in_numbers r)).number) (λ e. refl) (λ r. refl) (λ r. (report_answer (in_numbers r)).report) flat_report (λ r. refl)
     report_from (report_bytes id) good_flat_report report_there_and_back report_fine
     (λ r g. simp (le-leb (track_number r.track_kind) 3 (omega (arith, kind_fits r.track_kind)), report_there_and_back r, g))
     (known, λ e. omega arith) (λ r. simp (eq-eqb id id refl)) (λ f t g. reports.written_read id (report_from f) g) (reports.read_written id)

@@ -15,7 +15,7 @@ use Rattle.c_structs.specs.declared.FlatGeometric.{FlatGeometric}
 use Rattle.c_report.specs.declared.FlatReport.{FlatReport}
 use Rattle.messages.specs.Claims.{Retired}
 use Rattle.gdl90.specs.declared.WriteAnswer.{WriteAnswer}
-use Rattle.gdl90.specs.Messages.{kind_answer, uplink_answer, height_answer, geometric_answer}
+use Rattle.gdl90.specs.Messages.{report_answer, kind_answer, uplink_answer, height_answer, geometric_answer}
 use Rattle.gdl90.specs.Messages.{WritesHeartbeat, WritesInitialization, WritesUplink, WritesHeight, WritesOwnship, WritesGeometric, WritesTraffic}
 use Rattle.c_laws.specs.Zeroed.{zeroed_uplink, zeroed_height, zeroed_geometric, zeroed_report}
 
@@ -48,11 +48,13 @@ pub record RoundTrips : Type 0 where
       (λ x. (zeroed_uplink x.0, x.1))
   pub height :
       RoundTrip 9 FlatHeight (λ h. mag h.height.feet < 0x8000) WritesHeight (λ m. (height_answer m).number) (λ m. (height_answer m).height) zeroed_height
-  pub ownship : RoundTrip 10 FlatReport Any WritesOwnship (λ m. (ownship_read m).number) (λ m. (ownship_read m).report) zeroed_report
+  pub ownship :
+      RoundTrip 10 FlatReport Any WritesOwnship (λ m. (report_answer (ownship_read m)).number) (λ m. (report_answer (ownship_read m)).report) zeroed_report
   pub geometric :
       RoundTrip 11 FlatGeometric (λ g. mag g.altitude.steps < 0x8000) WritesGeometric (λ m. (geometric_answer m).number)
       (λ m. (geometric_answer m).geometric) zeroed_geometric
-  pub traffic : RoundTrip 20 FlatReport Any WritesTraffic (λ m. (traffic_read m).number) (λ m. (traffic_read m).report) zeroed_report
+  pub traffic :
+      RoundTrip 20 FlatReport Any WritesTraffic (λ m. (report_answer (traffic_read m)).number) (λ m. (report_answer (traffic_read m)).report) zeroed_report
 
 -- `gdl90_kind` answers 17 to a retired id (RULES 'Retired ids'), of whatever length, and to nothing else
 abbrev pub RetiredKind : Type 0
