@@ -6,8 +6,8 @@ use Rattle.characters.specs.Characters.{code_of}
 use Rattle.generic_text.specs.Product.{code_bytes, closed_bytes}
 
 -- the codes from character i on, and the closing one
-abbrev pub codes_left : List ℕ → ℕ → List ℕ
-codes_left text i = map code_of (drop i text) ++ (0 ∷ [])
+abbrev pub codes_behind : List ℕ → ℕ → List ℕ
+codes_behind text i = map code_of (drop i text) ++ (0 ∷ [])
 
 -- the bytes of four codes
 abbrev pub three_of : ℕ → ℕ → ℕ → ℕ → List ℕ
@@ -18,4 +18,4 @@ three_of a b c d =
 pub record PutFours (out text : List ℕ) (i at : ℕ) (left : List ℕ) : Type 0 where
   pub bytes : List ℕ
   pub stored : Stored out 4 bytes at left
-  pub rest : closed_bytes text ≡ bytes ++ code_bytes (codes_left text i)
+  pub rest : closed_bytes text ≡ bytes ++ code_bytes (codes_behind text i)

@@ -39,7 +39,7 @@ pub data Row : Type 0 where
   -- the two bytes of an information frame's header, and its length
   header : ℕ → ℕ → ℕ → Row
   -- a header at byte 0 of valid application data with zeros behind it, and what listing answers
-  list : ℕ → ℕ → FrameList → Row
+  list : ℕ → ℕ → Result FrameList Refusal → Row
   -- valid application data of 352 bytes with zeros behind it, and the texts that its frames hold
   texts : List ℕ → List Decoded → Row
   -- the same, and the bytes of those texts, written
