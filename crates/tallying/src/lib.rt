@@ -34,12 +34,14 @@ pub fn raised(tally: Tally, answer: Answer) -> Tally
 }
 
 // One more of answer n, holding at 4,294,967,295.
+#[tactic(auto, using(crate::proofs::Counting::no_count, crate::proofs::Counting::goes_up))]
 fn raised_at(tally: Tally, n: u8) -> Tally
     ensures { result ≡ raised_at tally n }
 {
     let mut next = tally;
-    if let Some(count) = next.counts.get_mut(usize::from(n)) {
-        *count = count.saturating_add(1);
+    let i = usize::from(n);
+    if i < 6 {
+        next.counts[i] = next.counts[i].saturating_add(1);
     }
     next
 }
