@@ -7,4 +7,4 @@ use Rattle.collecting.specs.Stretch.{Passed}
 use Rattle.collecting.proofs.plain.Given as goal
 
 abbrev pub invariant-loop-i : goal.invariant-loop-i
-invariant-loop-i l = Passed (state_in Open l.n l.at l.initial.room) l.bytes l.i (state_in Open (l.n + l.i) (l.at + l.i) l.room)
+invariant-loop-i l = Passed (state_in Open l.fn.control.count l.fn.control.stuffed l.initial.room) l.bytes l.i (state_in Open (l.fn.control.count + l.i) (l.fn.control.stuffed + l.i) l.room)
