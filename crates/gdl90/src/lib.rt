@@ -208,7 +208,10 @@ fn recording_answer(recorded: Result<usize, Refusal>) -> RecordingAnswer
 {
     match recorded {
         Ok(entries) => RecordingAnswer { number: 0, entries },
-        Err(refusal) => RecordingAnswer { number: refusal.number(), entries: 0 },
+        Err(refusal) => RecordingAnswer {
+            number: refusal.number(),
+            entries: 0,
+        },
     }
 }
 
