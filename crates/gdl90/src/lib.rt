@@ -40,7 +40,7 @@ use messages::Kind;
 use recording::Recorded;
 use refusals::Refusal;
 use tallying::Tally;
-use units::{GeometricSteps, InDegrees, PressureSteps, TerrainFeet};
+use units::{GeometricSteps, PressureSteps, TerrainFeet};
 
 // 001 Table 9.
 const LAST_TRACK_KIND: u8 = 3;
@@ -624,13 +624,13 @@ pub fn gdl90_degrees(latitude: i32, longitude: i32) -> DegreesAnswer
     ensures exact { ExactAnswer latitude longitude result }
 {
     match units::in_degrees(latitude, longitude) {
-        InDegrees::At(d) => DegreesAnswer {
+        Ok(d) => DegreesAnswer {
             number: 0,
             latitude: d.latitude,
             longitude: d.longitude,
         },
-        InDegrees::Refused(number) => DegreesAnswer {
-            number,
+        Err(refusal) => DegreesAnswer {
+            number: refusal.number(),
             latitude: 0.0,
             longitude: 0.0,
         },
