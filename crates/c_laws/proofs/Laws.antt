@@ -37,12 +37,13 @@ use Rattle.c_structs.specs.declared.FlatHeight.{FlatHeight}
 use Rattle.c_structs.specs.declared.FlatGeometric.{FlatGeometric}
 use Rattle.c_structs.specs.Flat.{height_from, reception_mark, reception_steps, reception_from, flat_uplink, uplink_from, flat_height, terrain_from, flat_geometric, geometric_from}
 use Rattle.c_structs.proofs.Laws.{there_and_back}
+use Rattle.c_report.specs.Answers.{report_answer}
 use Rattle.c_report.specs.declared.FlatReport.{FlatReport}
 use Rattle.c_report.specs.Flat.{track_number, flat_report, report_from}
 use Rattle.c_report.proofs.Laws.{report_there_and_back}
 use Rattle.messages.specs.Message.{kind_of, kind_number}
 use Rattle.messages.proofs.Retired.{id_of_retired, kind_of_retired}
-use Rattle.gdl90.specs.Messages.{report_answer, kind_answer, uplink_answer, AnsweredWriting, good_flat_report}
+use Rattle.gdl90.specs.Messages.{kind_answer, uplink_answer, AnsweredWriting, good_flat_report}
 use Rattle.c_laws.specs.Zeroed.{beside, zeroed_uplink, zeroed_height, zeroed_geometric, zeroed_report}
 use Rattle.c_laws.specs.Claims.{Any, RoundTrip, RoundTrips, RetiredKind, UnknownIn, position, altitude, track, speed, climb, UnknownMarks}
 use Rattle.c_laws.proofs.Fields as fields

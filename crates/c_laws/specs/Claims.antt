@@ -12,10 +12,11 @@ use Rattle.report.specs.Reading.{ownship_read, traffic_read}
 use Rattle.c_structs.specs.declared.FlatUplink.{FlatUplink}
 use Rattle.c_structs.specs.declared.FlatHeight.{FlatHeight}
 use Rattle.c_structs.specs.declared.FlatGeometric.{FlatGeometric}
+use Rattle.c_report.specs.Answers.{report_answer}
 use Rattle.c_report.specs.declared.FlatReport.{FlatReport}
 use Rattle.messages.specs.Claims.{Retired}
 use Rattle.gdl90.specs.declared.WriteAnswer.{WriteAnswer}
-use Rattle.gdl90.specs.Messages.{report_answer, kind_answer, uplink_answer, height_answer, geometric_answer}
+use Rattle.gdl90.specs.Messages.{kind_answer, uplink_answer, height_answer, geometric_answer}
 use Rattle.gdl90.specs.Messages.{WritesHeartbeat, WritesInitialization, WritesUplink, WritesHeight, WritesOwnship, WritesGeometric, WritesTraffic}
 use Rattle.c_laws.specs.Zeroed.{zeroed_uplink, zeroed_height, zeroed_geometric, zeroed_report}
 

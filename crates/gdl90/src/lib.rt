@@ -8,8 +8,9 @@ ghost use Rattle.framing.specs.Framing.{framing, framed_output};
 ghost use Rattle.tallying.specs.Tally.{tallied};
 ghost use Rattle.heartbeat.specs.Heartbeat.{heartbeat_read};
 ghost use Rattle.initialization.specs.Initialization.{initialization_read};
+ghost use Rattle.c_report.specs.Answers.{report_answer};
 ghost use Rattle.report.specs.Reading.{report_read, ownship_read, traffic_read};
-ghost use Rattle.gdl90.specs.Messages.{report_answer, kind_answer, uplink_answer, height_answer, geometric_answer, write_answer};
+ghost use Rattle.gdl90.specs.Messages.{kind_answer, uplink_answer, height_answer, geometric_answer, write_answer};
 ghost use Rattle.gdl90.specs.Messages.{WritesHeartbeat, WritesInitialization, WritesUplink, WritesHeight, WritesReport, WritesOwnship, WritesGeometric, WritesTraffic};
 ghost use Rattle.messages.specs.Message.{kind_number};
 ghost use Rattle.information_frames.specs.Walk.{payload_frames};
@@ -68,7 +69,10 @@ fn frame_answer(framed: Result<usize, Refusal>) -> FrameAnswer
 {
     match framed {
         Ok(length) => FrameAnswer { number: 0, length },
-        Err(refusal) => FrameAnswer { number: refusal.number(), length: 0 },
+        Err(refusal) => FrameAnswer {
+            number: refusal.number(),
+            length: 0,
+        },
     }
 }
 
