@@ -20,7 +20,6 @@ ghost use Rattle.gdl90.specs.Collecting.{frame_answer, phase_number, phase_of, c
 ghost use Rattle.units.specs.Degrees.{in_degrees};
 ghost use Rattle.units.specs.Feet.{pressure_feet, geometric_feet, terrain_feet};
 ghost use Rattle.gdl90.specs.Payload.{payload_list_answer, payload_nth_answer};
-ghost use Rattle.information_frames.specs.declared.Found.TheVariants.{Refused};
 ghost use Rattle.generic_text.specs.Product.{text_with};
 ghost use Rattle.gdl90.specs.Texts.{text_answer, ReadsText, WritesText};
 ghost use Rattle.gdl90.specs.Degrees.{degrees_answer, ExactAnswer};
@@ -31,8 +30,7 @@ use c_structs::{
 };
 use collecting::{Answer, Control, Fed, Phase};
 use framing::Framed;
-use generic_text::TextReading;
-use information_frames::{Added, Found, FrameList};
+use generic_text::Text;
 use message_types::{
     Heartbeat, HeartbeatRead, Initialization, InitializationRead, Ownship, Traffic,
 };
@@ -489,13 +487,13 @@ pub fn gdl90_payload_list(payload: &[u8]) -> PayloadListAnswer
     ensures { result ≡ payload_list_answer (frame_list (payload_frames payload.now)) }
 {
     match information_frames::list(payload) {
-        FrameList::Frames { count, end } => PayloadListAnswer {
+        Ok(list) => PayloadListAnswer {
             number: 0,
-            count,
-            end,
+            count: list.count,
+            end: list.end,
         },
-        FrameList::Refused(number) => PayloadListAnswer {
-            number,
+        Err(refusal) => PayloadListAnswer {
+            number: refusal.number(),
             count: 0,
             end: 0,
         },
@@ -518,22 +516,22 @@ pub fn gdl90_payload_nth(payload: &[u8], n: usize) -> PayloadNthAnswer
     ensures { result ≡ payload_nth_answer (nth_frame (payload_frames payload.now) n) }
 {
     match information_frames::nth(payload, n) {
-        Found::Frame(f) => PayloadNthAnswer {
+        Ok(f) => PayloadNthAnswer {
             number: 0,
             kind: f.kind,
             reserved: f.reserved,
             start: f.at + 10,
             length: f.length,
         },
-        Found::Refused(k) => no_frame(k),
+        Err(refusal) => no_frame(refusal),
     }
 }
 
-fn no_frame(number: u8) -> PayloadNthAnswer
-    ensures { result ≡ payload_nth_answer (Refused number) }
+fn no_frame(refusal: Refusal) -> PayloadNthAnswer
+    ensures { result ≡ payload_nth_answer (Err refusal) }
 {
     PayloadNthAnswer {
-        number,
+        number: refusal.number(),
         kind: 0,
         reserved: 0,
         start: 0,
@@ -547,8 +545,8 @@ pub fn gdl90_payload_add(payload: &mut [u8], kind: u8, bytes: &[u8]) -> u8
     ensures payload { payload.new ≡ payload_after (adding (payload_frames payload.old) kind (length bytes.now)) payload.old kind bytes.now }
 {
     match information_frames::add(payload, kind, bytes) {
-        Added::Done => 0,
-        Added::Refused(k) => k,
+        Ok(()) => 0,
+        Err(refusal) => refusal.number(),
     }
 }
 
@@ -571,24 +569,19 @@ pub fn gdl90_read_text(apdu: &[u8], out: &mut [u8]) -> TextAnswer
     text_answer(reading)
 }
 
-fn text_answer(reading: TextReading) -> TextAnswer
+fn text_answer(reading: Result<Text, Refusal>) -> TextAnswer
     ensures { result ≡ text_answer reading }
 {
     match reading {
-        TextReading::Text {
-            hours,
-            minutes,
-            padding,
-            length,
-        } => TextAnswer {
+        Ok(text) => TextAnswer {
             number: 0,
-            hours,
-            minutes,
-            padding,
-            length,
+            hours: text.hours,
+            minutes: text.minutes,
+            padding: text.padding,
+            length: text.length,
         },
-        TextReading::Refused(number) => TextAnswer {
-            number,
+        Err(refusal) => TextAnswer {
+            number: refusal.number(),
             hours: 0,
             minutes: 0,
             padding: 0,

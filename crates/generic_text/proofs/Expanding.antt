@@ -1,75 +1,109 @@
 -- Walking over a whole text: its length counted, and its bytes stored.
 -- Assumes nothing.
-use mathlib.Core.Path.{◌≡◌, refl, sym, ap, ◌∙◌}
-use Prim.Native.Nat.{ℕ, zero, suc, ◌+◌, ◌-◌, ◌≤◌, ◌<◌, min}
-use mathlib.Core.List.{List, [], ◌∷◌, ◌++◌}
+use mathlib.Core.Path.{◌≡◌, refl, sym, ap, ◌∙◌, subst}
+use Prim.Native.Nat.{ℕ, ◌+◌, ◌-◌, ◌≤◌, min}
+use mathlib.Core.List.{List, [], ◌++◌, append_assoc, append-nil}
 use mathlib.Core.Option.{Option, none, some}
 use native.Mathlib.Omega.{arith}
-use lib.ListN.{length, replicate, length-append}
+use lib.ListN.{length, take, drop, replicate, length-append, length-drop}
+use lib.Seq.{sets-eq, drop-drop, length-take-le}
+use borrow.Rule.Slice.PartMut.{put_mid}
+use Rattle.std.specs.Prelude.{Option as Answer, Some, None, Result, Ok, Err}
+use Rattle.std.specs.Result.{result_unwrap_or}
 use Rattle.numbers.specs.Lent.{written, Stored}
-use Rattle.numbers.proofs.Storing.{Rest, rest_more, rest_none, from_first}
-use Rattle.generic_text.specs.declared.Cursor.{Cursor}
-use Rattle.generic_text.specs.declared.Run.{Run}
+use Rattle.numbers.proofs.Storing.{Rest, rest_more, rest_none, rest_size, from_first}
+use Rattle.refusals.specs.declared.Refusal.{Refusal}
+use Rattle.refusals.specs.declared.Refusal.TheVariants.{NoCharacter}
+use Rattle.generic_text.specs.declared.six_bits.Codes.{Codes}
+use Rattle.generic_text.specs.declared.six_bits.Run.{Run}
 use Rattle.generic_text.specs.Texts.{before, text_of_codes}
 use Rattle.generic_text.proofs.Texts.{before_more}
-use Rattle.generic_text.specs.Cursor.{Even, codes_from, behind_header, Passes, NextRun, Fits, or_no_bytes}
+use Rattle.generic_text.specs.Codes.{codes_left, Passes, NextRun, Fits, or_no_bytes, measured}
 
--- a byte stored, of so many
-pub repeated : (n a : ℕ) → 0 < n → replicate n a ≡ (a ∷ []) ++ replicate (n - 1) a
-repeated zero a h = absurd (omega arith)
-repeated (suc n) a h = let e : n ≡ suc n - 1 = omega arith in ap (λ (k : ℕ). a ∷ replicate k a) e
+-- bytes stored in a part, of which k are written
+pub stored_part : (out xs ys : List ℕ) (at k : ℕ) → at + k ≤ length out → length xs ≡ k → ys ≡ xs → Stored out at xs (at + k) (put_mid at (at + k - at) out ys)
+stored_part out xs ys at k h n e = record {
+  ends = ap (λ (m : ℕ). at + m) (sym n);
+  leaves =
+      let same : at + (at + k - at) ≡ at + length xs = omega (arith, n) in
+      rw (e, sets-eq xs out at (omega (arith, n)), drop-drop, same) (sym (append_assoc (take at out) xs _));
+}
+
+-- of so many places, so many bytes
+pub filled : (out : List ℕ) (at k b : ℕ) (xs : List ℕ) → at + k ≤ length out → xs ≡ replicate (length (take (at + k - at) (drop at out))) b → xs ≡ replicate k b
+filled out at k b xs h e = e ∙ ap (λ (n : ℕ). replicate n b) (omega (arith, length-take-le (at + k - at) (drop at out) (omega (arith, length-drop at out))))
 
 -- bytes before a text, told apart from it
-behind : (xs rest : List ℕ) (t : Option (List ℕ)) → before xs t ≡ some rest → (t ≡ some (or_no_bytes t)) × (rest ≡ xs ++ or_no_bytes t)
-behind xs rest (some t) e = (refl, (cc))
-behind xs rest none e = absurd (let z : ◌≡◌ {A = ℕ} 0 1 = cc in omega arith)
+told_apart : (xs rest : List ℕ) (t : Option (List ℕ)) → before xs t ≡ some rest → (t ≡ some (or_no_bytes t)) × (rest ≡ xs ++ or_no_bytes t)
+told_apart xs rest (some t) e = (refl, (cc))
+told_apart xs rest none e = absurd (let z : ◌≡◌ {A = ℕ} 0 1 = cc in omega arith)
 
-module _ (apdu : List ℕ) where
-  -- n bytes were counted, no further than one more than the room, up to s
-  pub record Counted (room : ℕ) (s : Cursor) (n : ℕ) : Type 0 where
+-- a run that was told
+pub run_passes : {codes : List ℕ} {r : Result (Answer (Run × Codes)) Refusal} (x : Run × Codes) → NextRun codes r → r ≡ Ok (Some x) → Passes codes (replicate x.0.times x.0.byte) (codes_left x.1)
+run_passes {codes} x h e = subst (NextRun codes) e h
+
+pub told : (r : Result (Answer (Run × Codes)) Refusal) {x : Run × Codes} → result_unwrap_or r None ≡ Some x → r ≡ Ok (Some x)
+told (Ok y) e = ap Ok e
+told (Err k) e = absurd cc
+
+-- or none
+pub run_ends : (codes : List ℕ) (r : Result (Answer (Run × Codes)) Refusal) → (text_of_codes codes ≡ none → ⊥) → NextRun codes r → result_unwrap_or r None ≡ None → text_of_codes codes ≡ some []
+run_ends codes (Ok (Some x)) f h e = absurd cc
+run_ends codes (Ok None) f h e = h
+run_ends codes (Err k) f h e = absurd (f h.0)
+
+module _ (codes : List ℕ) where
+  -- n bytes were counted, no further than one more than the room, before the codes that are left
+  pub record Counted (room : ℕ) (left : List ℕ) (n : ℕ) : Type 0 where
     pub passed : List ℕ
-    pub is : text_of_codes (codes_from apdu behind_header) ≡ before passed (text_of_codes (codes_from apdu s))
+    pub is : text_of_codes codes ≡ before passed (text_of_codes left)
     pub counts : n ≡ min (length passed) (room + 1)
-    pub even : Even s
 
-  module _ {room n : ℕ} {s : Cursor} (c : Counted room s n) where
-    pub count_more : (xs : List ℕ) (k m : ℕ) {t : Cursor} → length xs ≡ k → Passes apdu (codes_from apdu s) xs t → m ≡ min (n + k) (room + 1) → Counted room t m
-    count_more xs k m {t} l h e = record {
+  module _ {room n : ℕ} {left : List ℕ} (c : Counted room left n) where
+    pub count_more : (xs : List ℕ) (k m : ℕ) {behind : List ℕ} → length xs ≡ k → Passes left xs behind → m ≡ min (n + k) (room + 1) → Counted room behind m
+    count_more xs k m {behind} l h e = record {
       passed = c.passed ++ xs;
-      is = c.is ∙ ap (before c.passed) h.is ∙ before_more c.passed xs (text_of_codes (codes_from apdu t));
+      is = c.is ∙ ap (before c.passed) h.is ∙ before_more c.passed xs (text_of_codes behind);
       counts = omega (arith, e, c.counts, length-append c.passed xs);
-      even = h.even;
     }
 
-  -- the text's bytes were stored before `at`, up to s
-  pub record Expanded (out left : List ℕ) (s : Cursor) (at : ℕ) : Type 0 where
-    pub rest : List ℕ
-    pub is : text_of_codes (codes_from apdu s) ≡ some rest
-    pub stores : Rest out 0 (or_no_bytes (text_of_codes (codes_from apdu behind_header))) left at rest
-    pub even : Even s
+    pub count_end : text_of_codes left ≡ some [] → Ok n ≡ measured (text_of_codes codes) room
+    count_end e =
+        let t : text_of_codes codes ≡ some (c.passed ++ []) = c.is ∙ ap (before c.passed) e in
+        rw (t, append-nil, c.counts)
 
+    pub count_fault : text_of_codes left ≡ none → Err NoCharacter ≡ measured (text_of_codes codes) room
+    count_fault e = rw (c.is, e)
+
+  -- the text's bytes were stored before `at`, up to the codes that are left
+  pub record Expanded (out after left : List ℕ) (at : ℕ) : Type 0 where
+    pub rest : List ℕ
+    pub is : text_of_codes left ≡ some rest
+    pub stores : Rest out 0 (or_no_bytes (text_of_codes codes)) after at rest
+
+  -- a text that fits is one
   is_text : (t : Option (List ℕ)) (room : ℕ) → Fits t room → (t ≡ some (or_no_bytes t)) × (length (or_no_bytes t) ≤ room)
   is_text (some t) room h = (refl, h)
   is_text none room h = absurd h
 
-  module _ {out left : List ℕ} {s : Cursor} {at : ℕ} (x : Expanded out left s at) where
-    module _ (xs : List ℕ) {t : Cursor} (h : Passes apdu (codes_from apdu s) xs t) where
-      tail : (text_of_codes (codes_from apdu t) ≡ some (or_no_bytes (text_of_codes (codes_from apdu t)))) × (x.rest ≡ xs ++ or_no_bytes (text_of_codes (codes_from apdu t)))
-      tail = behind xs x.rest (text_of_codes (codes_from apdu t)) (sym h.is ∙ x.is)
+  pub expand_start : (out : List ℕ) → Fits (text_of_codes codes) (length out) → Expanded out out codes 0
+  expand_start out f = record { rest = or_no_bytes (text_of_codes codes); is = (is_text (text_of_codes codes) (length out) f).0; stores = λ last left s. s }
 
-      pub expand_more : {next : ℕ} {after : List ℕ} → Stored left at xs next after → Expanded out after t next
-      expand_more stored = record { rest = _; is = tail.0; stores = rest_more stored (rw tail.1 at x.stores); even = h.even }
+  module _ {out after left : List ℕ} {at : ℕ} (x : Expanded out after left at) where
+    module _ (xs : List ℕ) {behind : List ℕ} (h : Passes left xs behind) where
+      tail : (text_of_codes behind ≡ some (or_no_bytes (text_of_codes behind))) × (x.rest ≡ xs ++ or_no_bytes (text_of_codes behind))
+      tail = told_apart xs x.rest (text_of_codes behind) (sym h.is ∙ x.is)
 
-    ended : Fits (text_of_codes (codes_from apdu behind_header)) (length out) → text_of_codes (codes_from apdu s) ≡ some [] → left ≡ written (or_no_bytes (text_of_codes (codes_from apdu behind_header))) out
-    ended f h =
+      pub expand_room : Fits (text_of_codes codes) (length out) → at + length xs ≤ length out
+      expand_room f = omega (arith, rest_size x.stores, ap length tail.1, length-append xs (or_no_bytes (text_of_codes behind)), (is_text (text_of_codes codes) (length out) f).1)
+
+      pub expand_more : {next : ℕ} {now : List ℕ} → Stored after at xs next now → Expanded out now behind next
+      expand_more stored = record { rest = _; is = tail.0; stores = rest_more stored (rw tail.1 at x.stores) }
+
+    pub expand_end : Fits (text_of_codes codes) (length out) → text_of_codes left ≡ some [] → after ≡ written (or_no_bytes (text_of_codes codes)) out
+    expand_end f h =
         let none_left : x.rest ≡ [] = cc (x.is, h) in
-        (rest_none (rw none_left at x.stores)).leaves ∙ from_first (or_no_bytes (text_of_codes (codes_from apdu behind_header))) out (is_text (text_of_codes (codes_from apdu behind_header)) (length out) f).1
+        (rest_none (rw none_left at x.stores)).leaves ∙ from_first (or_no_bytes (text_of_codes codes)) out (is_text (text_of_codes codes) (length out) f).1
 
-    -- a text that fits is one, so where no byte is next it ends
-    pub expand_end : Fits (text_of_codes (codes_from apdu behind_header)) (length out) → {r : Run} → NextRun apdu (codes_from apdu s) r → r.byte ≡ 0
-        → left ≡ written (or_no_bytes (text_of_codes (codes_from apdu behind_header))) out
-    expand_end f {r} n z = go r.times refl
-      where
-        go : (k : ℕ) → r.times ≡ k → left ≡ written (or_no_bytes (text_of_codes (codes_from apdu behind_header))) out
-        go zero e = ended f (n.ends z e)
-        go (suc k) e = absurd (let h = n.faults z (λ t. omega arith) in let z : ◌≡◌ {A = ℕ} 0 1 = cc (x.is, h) in omega arith)
+    pub no_fault : text_of_codes left ≡ none → ⊥
+    no_fault h = let z : ◌≡◌ {A = ℕ} 0 1 = cc (x.is, h) in absurd (omega arith)

@@ -15,6 +15,7 @@ use Rattle.numbers.specs.Bytes.{AreBytes}
 use Rattle.numbers.proofs.Every.{both}
 use Rattle.numbers.proofs.Bytes.{byte_at}
 use Rattle.numbers.specs.Packing.{bits_in, numbers_in}
+use Rattle.refusals.specs.declared.Refusal.TheVariants.{NoHeader, NoText}
 use Rattle.characters.specs.Characters.{character_of, code_of, are_listed}
 use Rattle.generic_text.specs.Texts.{text_of_codes, AreCharacters}
 use Rattle.generic_text.specs.Product.{Text, text_with, is_generic_text, hours_in, minutes_in, padding_in, decoded, refused, with_header, decode, is_fit, header_of, code_bytes, closed_bytes, encode}
@@ -103,7 +104,7 @@ unfolding decode
 accepted apdu t = go (ltb (length apdu) 4) refl (is_generic_text (get_or apdu 0 0) (get_or apdu 1 0) (get_or apdu 2 0)) refl
   where
     go : (s : Bool) → ltb (length apdu) 4 ≡ s → (u : Bool) → is_generic_text (get_or apdu 0 0) (get_or apdu 1 0) (get_or apdu 2 0) ≡ u
-        → cond s (refused 14) (cond u (with_header (get_or apdu 2 0) (get_or apdu 3 0) (text_of_codes (numbers_in 6 (bits_in 8 (drop 4 apdu))))) (refused 15)) ≡ decoded t
+        → cond s (refused NoHeader) (cond u (with_header (get_or apdu 2 0) (get_or apdu 3 0) (text_of_codes (numbers_in 6 (bits_in 8 (drop 4 apdu))))) (refused NoText)) ≡ decoded t
         → Accepted apdu t
     go true e u f h = absurd (let z : ◌≡◌ {A = ℕ} 0 1 = cc in omega arith)
     go false e true f h = record { whole = ltb-false _ _ e; header = f; is = h }

@@ -1,28 +1,27 @@
 -- What is proved of texts (RULES 'Weather texts'), over the definitions that the contracts cite.
 -- Assumes nothing.
-use Rattle.std.specs.Prelude.{◌≡◌, ℕ, suc, ◌+◌, ◌-◌, ◌/◌, ◌≤◌, ◌<◌, true, List, [], ◌∷◌, ◌++◌, length, get_or, take, drop, replicate}
+use Rattle.std.specs.Prelude.{◌≡◌, ℕ, suc, ◌+◌, ◌-◌, ◌/◌, ◌≤◌, ◌<◌, true, Result, Ok, List, [], ◌∷◌, ◌++◌, length, get_or, take, drop, replicate}
 use Rattle.numbers.specs.Bytes.{AreBytes}
 use Rattle.numbers.specs.Lent.{written}
 use Rattle.numbers.specs.Packing.{bits_in}
-use Rattle.codec.specs.declared.Written.TheVariants.{Bytes}
-use Rattle.generic_text.specs.declared.TextReading.{TextReading}
-use Rattle.generic_text.specs.declared.TextReading.TheVariants.{Text}
+use Rattle.refusals.specs.declared.Refusal.{Refusal}
+use Rattle.generic_text.specs.declared.Text.{Text}
 use Rattle.generic_text.specs.Texts.{AreCharacters}
 use Rattle.generic_text.specs.Product as spec
-use Rattle.generic_text.specs.Answers.{ReadText, text_writing, WroteText}
+use Rattle.generic_text.specs.Answers.{text_of, ReadText, text_writing, WroteText}
 
 -- a text written and read is that text, with its header fields: the bytes that one call wrote, read by another with room for it
 abbrev pub WrittenRead : Type 0
 WrittenRead =
-    (t : spec.Text) (out left lent after : List ℕ) (n : ℕ) (answer : TextReading) → WroteText t out (Bytes n) left
+    (t : spec.Text) (out left lent after : List ℕ) (n : ℕ) (answer : Result Text Refusal) → WroteText t out (Ok n) left
     → ReadText (spec.decode (take n left)) lent answer after → length t.characters ≤ length lent
-    → (answer ≡ Text t.hours t.minutes t.padding (length t.characters)) × (after ≡ written t.characters lent)
+    → (answer ≡ Ok (text_of t.hours t.minutes t.padding (length t.characters))) × (after ≡ written t.characters lent)
 
 -- what is read can be written, where there is room
 abbrev pub ReadWritable : Type 0
 ReadWritable =
     (apdu : List ℕ) (t : spec.Text) (room : ℕ) → AreBytes apdu → spec.decode apdu ≡ spec.decoded t → length (spec.encode t) ≤ room
-    → text_writing t room ≡ Bytes (length (spec.encode t))
+    → text_writing t room ≡ Ok (length (spec.encode t))
 
 -- four codes, the closing one counted, are three bytes behind the header, and each that is left over one
 abbrev pub Size : Type 0
@@ -55,6 +54,6 @@ SameExactlyIfClosed = (apdu : List ℕ) → AreBytes apdu → (Rewritten apdu �
 -- so of two calls, one that reads and one that writes what it read: what is written is what was read exactly if that is of the closed form
 abbrev pub ReadWritten : Type 0
 ReadWritten =
-    (apdu lent after out left : List ℕ) (h m p n k : ℕ) → AreBytes apdu → ReadText (spec.decode apdu) lent (Text h m p n) after
-    → WroteText (spec.text_with h m p (take n after)) out (Bytes k) left
+    (apdu lent after out left : List ℕ) (h m p n k : ℕ) → AreBytes apdu → ReadText (spec.decode apdu) lent (Ok (text_of h m p n)) after
+    → WroteText (spec.text_with h m p (take n after)) out (Ok k) left
     → (take k left ≡ apdu → Closed apdu) × (Closed apdu → take k left ≡ apdu)

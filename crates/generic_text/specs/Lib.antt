@@ -1,6 +1,6 @@
 pub mod Texts
 pub mod Product
 pub mod Answers
-pub mod Cursor
+pub mod Codes
 pub mod Putting
 pub mod Claims

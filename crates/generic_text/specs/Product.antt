@@ -3,6 +3,8 @@
 use Rattle.std.specs.Prelude.{ℕ, ◌+◌, ◌*◌, ◌/◌, ◌%◌, Bool, cond, ◌&&◌, List, [], ◌∷◌, ◌++◌, map, eqb, ltb, length, get_or, drop, replicate}
 use Rattle.std.proofs.Math.Option.{Option, none, some}
 use Rattle.numbers.specs.Packing.{bits_in, numbers_in}
+use Rattle.refusals.specs.declared.Refusal.{Refusal}
+use Rattle.refusals.specs.declared.Refusal.TheVariants.{NoHeader, NoText, NoCharacter}
 use Rattle.characters.specs.Characters.{code_of}
 use Rattle.generic_text.specs.Texts.{text_of_codes}
 
@@ -33,23 +35,23 @@ minutes_in c d = c % 4 * 16 + d / 16
 abbrev pub padding_in : ℕ → ℕ
 padding_in d = d % 16
 
--- the text that bytes hold, or the number of the refusal
+-- the text that bytes hold, or why they hold none
 pub data Decoded : Type 0 where
   decoded : Text → Decoded
-  refused : ℕ → Decoded
+  refused : Refusal → Decoded
 
 abbrev pub with_header : ℕ → ℕ → Option (List ℕ) → Decoded
 with_header c d (some t) = decoded (text_with (hours_in c) (minutes_in c d) (padding_in d) t)
-with_header c d none = refused 16
+with_header c d none = refused NoCharacter
 
--- 14 for fewer than four header bytes; 15 unless the header is a text's; 16 for codes that make no text. Codes are six bits each,
+-- `NoHeader` for fewer than four header bytes; `NoText` unless the header is a text's; `NoCharacter` for codes that make no text. Codes are six bits each,
 -- packed high bit first; leftover bits are not read
 unfoldable pub decode : List ℕ → Decoded
 decode apdu =
-    cond (ltb (length apdu) 4) (refused 14)
+    cond (ltb (length apdu) 4) (refused NoHeader)
     (cond (is_generic_text (get_or apdu 0 0) (get_or apdu 1 0) (get_or apdu 2 0))
     (with_header (get_or apdu 2 0) (get_or apdu 3 0) (text_of_codes (numbers_in 6 (bits_in 8 (drop 4 apdu)))))
-    (refused 15))
+    (refused NoText))
 
 -- each field of the header fits its bits
 abbrev pub is_fit : ℕ → ℕ → ℕ → Bool

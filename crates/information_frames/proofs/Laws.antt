@@ -8,8 +8,9 @@ use native.Mathlib.Omega.{arith}
 use lib.Dec.{ltb}
 use lib.ListN.{length}
 use borrow.Author.Tests.{ltb-false}
+use Rattle.std.specs.Prelude.{Ok, Err}
 use Rattle.information_frames.specs.declared.Frame.{Frame}
-use Rattle.information_frames.specs.declared.Added.TheVariants.{Done, Refused}
+use Rattle.refusals.specs.declared.Refusal.TheVariants.{BadField, NoRoom}
 use Rattle.information_frames.specs.Walk.{listed, frames_before, walk, payload_frames}
 use Rattle.information_frames.specs.Answers.{frame_list}
 use Rattle.information_frames.specs.Adding.{is_good, adding, with_frame}
@@ -25,11 +26,11 @@ unfolding payload_frames
 fixed p q n v d = rw (n, v, d)
 
 -- what an accepted frame has met
-met : (fs : List Frame) (end kind n : ℕ) → Done ≡ adding (listed fs end) kind n → (is_good kind n ≡ true) × (end + 2 + n ≤ 424)
+met : (fs : List Frame) (end kind n : ℕ) → Ok (tt {0}) ≡ adding (listed fs end) kind n → (is_good kind n ≡ true) × (end + 2 + n ≤ 424)
 unfolding adding
 met fs end kind n = go (is_good kind n) (ltb 424 (end + 2 + n)) refl
   where
-    go : (t u : Bool) → ltb 424 (end + 2 + n) ≡ u → Done ≡ cond t (cond u (Refused 9) Done) (Refused 8) → (t ≡ true) × (end + 2 + n ≤ 424)
+    go : (t u : Bool) → ltb 424 (end + 2 + n) ≡ u → Ok (tt {0}) ≡ cond t (cond u (Err NoRoom) (Ok (tt {0}))) (Err BadField) → (t ≡ true) × (end + 2 + n ≤ 424)
     go true false e h = (refl, ltb-false 424 (end + 2 + n) e)
     go true true e h = absurd (let z : ◌≡◌ {A = ℕ} 0 1 = cc in omega arith)
     go false u e h = absurd (let z : ◌≡◌ {A = ℕ} 0 1 = cc in omega arith)

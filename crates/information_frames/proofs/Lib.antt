@@ -3,7 +3,6 @@ pub mod Scanning
 pub mod Refusing
 pub mod Answering
 pub mod Rows
-pub mod Copying
 pub mod Putting
 pub mod Growing
 pub mod Laws

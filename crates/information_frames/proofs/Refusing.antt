@@ -1,26 +1,28 @@
--- When a payload is refused with 11, and the numbers that there are.
+-- When a payload is refused with `PastTheEnd`, and the numbers that there are.
 -- Assumes nothing.
 use mathlib.Core.Path.{◌≡◌, refl, sym, ap, ◌∙◌}
 use mathlib.Core.Bool.{Bool, true, false, cond}
 use mathlib.Core.List.{List, [], ◌∷◌, ◌++◌}
 use Prim.Native.Nat.{ℕ, ◌+◌, ◌<◌, ◌≤◌}
 use native.Mathlib.Omega.{arith}
-use lib.Dec.{ltb}
+use lib.Dec.{eqb, ltb}
 use lib.ListN.{length, get_or, drop, length-drop}
 use lib.Seq.{drop-drop}
+use borrow.Author.Tests.{eq-eqb, ne_eqb}
+use Rattle.std.specs.Prelude.{Option, Some, None, Ok, Err, ok_or, slice_get}
+use Rattle.refusals.specs.declared.Refusal.TheVariants.{WrongLength, BadField, NoRoom, PastTheEnd, NoFrame}
+use Rattle.refusals.specs.declared.Refusal.{Refusal}
 use Rattle.information_frames.specs.declared.Frame.{Frame}
-use Rattle.information_frames.specs.declared.Found.TheVariants as nth
-use Rattle.information_frames.specs.declared.Added.TheVariants.{Done, Refused}
 use Rattle.information_frames.specs.Frames.{length_in, headed}
 use Rattle.information_frames.specs.Walk.{Frames, listed, refused, frames_before, walk, valid_bit, payload_frames}
-use Rattle.information_frames.specs.Answers.{frame_list, nth_frame, list_number, found_number, none}
+use Rattle.information_frames.specs.Answers.{frame_list, nth_frame, list_number, found_number}
 use Rattle.information_frames.specs.Adding.{is_good, adding, added_number}
 use Rattle.information_frames.specs.Claims.{length_at, Starts, first, next, RunsPast, PastIs11, Over422Is11, is_one_of, numbers_of_list, numbers_of_frame, numbers_of_adding, Numbers}
 use Rattle.information_frames.proofs.Walking.{every_walk, every_payload}
 use Rattle.information_frames.proofs.Scanning.{two, Reached, start, refused_past, goes_on}
 
 -- frames before a list are refused only where it is
-refused_behind : (fs : List Frame) (w : Frames) {k : ℕ} → frames_before fs w ≡ refused k → w ≡ refused k
+refused_behind : (fs : List Frame) (w : Frames) {k : Refusal} → frames_before fs w ≡ refused k → w ≡ refused k
 unfolding frames_before
 refused_behind fs (listed gs end) e = cc
 refused_behind fs (refused k) e = e
@@ -28,7 +30,7 @@ refused_behind fs (refused k) e = e
 module _ (p : List ℕ) (size : length p ≡ 432) where
   -- a walk from byte `at`, where a frame starts if there is room for its header
   Traced : ℕ → List ℕ → Frames → Type 0
-  Traced at xs w = xs ≡ drop (at + 8) p → (at ≤ 422 → Starts p at) → w ≡ refused 11 → RunsPast p
+  Traced at xs w = xs ≡ drop (at + 8) p → (at ≤ 422 → Starts p at) → w ≡ refused PastTheEnd → RunsPast p
 
   -- two bytes and the rest, where they are those of the payload from byte `at` on
   header : (at a b : ℕ) (xs : List ℕ) → a ∷ b ∷ xs ≡ drop (at + 8) p → (at ≤ 422) × (length_in a b ≡ length_at p at) × (xs ≡ drop (at + 10) p)
@@ -43,7 +45,7 @@ module _ (p : List ℕ) (size : length p ≡ 432) where
   unfolding Traced
   traced = every_walk Traced (λ at xs e s r. absurd (let z : ◌≡◌ {A = ℕ} 0 1 = cc in omega arith)) eleven front
     where
-      eleven : (at a b : ℕ) (xs : List ℕ) → length xs < length_in a b → Traced at (a ∷ b ∷ xs) (refused 11)
+      eleven : (at a b : ℕ) (xs : List ℕ) → length xs < length_in a b → Traced at (a ∷ b ∷ xs) (refused PastTheEnd)
       eleven at a b xs l e s r =
           let h = header at a b xs e in
           record { at = at; starts = s h.0; past = omega (arith, h.0, h.1, ap length h.2, length-drop (at + 10) p) }
@@ -57,21 +59,22 @@ module _ (p : List ℕ) (size : length p ≡ 432) where
 
   module _ (valid : valid_bit p ≡ 1) where
     -- the walk reaches each byte at which a frame starts
-    reached : {at : ℕ} → Starts p at → (at < 423) × (count : ℕ) × (frame : Frame) × Reached p 0 at count frame
-    reached first = (omega arith, 0, headed 0 0 0, start p 0 (headed 0 0 0) refl size valid)
-    reached (next s some l) =
+    reached : {at : ℕ} → Starts p at → (at < 423) × (count : ℕ) × (frame : Option Frame) × Reached p 0 at count frame
+    reached first = (omega arith, 0, None, start p 0 size valid)
+    reached (next {at = at} s some l) =
         let r = reached s in
-        (omega arith, _, _, goes_on p 0 r.3 r.0 (headed _ _ _) refl (λ e. omega arith) (omega arith) _ refl)
+        let f = headed at (get_or p (at + 8) 0) (get_or p (at + 9) 0) in
+        (omega arith, _, _, goes_on p 0 r.3 r.0 f refl (λ e. omega arith) (omega arith) (cond (eqb r.1 0) (Some f) r.2) (λ e. rw (eq-eqb r.1 0 e)) (λ e. rw (ne_eqb r.1 0 e)))
 
-    refuses : RunsPast p → payload_frames p ≡ refused 11
+    refuses : RunsPast p → payload_frames p ≡ refused PastTheEnd
     refuses x =
         let r = reached x.starts in
         refused_past p 0 r.3 r.0 (headed x.at _ _) refl (λ e. omega arith) (omega arith)
 
-    traced_past : payload_frames p ≡ refused 11 → RunsPast p
+    traced_past : payload_frames p ≡ refused PastTheEnd → RunsPast p
     unfolding Traced
     traced_past e =
-        let s = start p 0 (headed 0 0 0) refl size valid in
+        let s = start p 0 size valid in
         traced 0 (drop 8 p) refl (λ h. first) (refused_behind s.behind _ (sym s.rest ∙ e))
 
 pub past_is_11 : PastIs11
@@ -80,8 +83,8 @@ past_is_11 p size valid = (refuses p size valid, traced_past p size valid)
 pub over_422_is_11 : Over422Is11
 over_422_is_11 p at size valid s long = refuses p size valid (record { at = at; starts = s; past = omega arith })
 
--- what holds of every list, of 7 and of 11 holds of every payload
-module _ (P : Frames → Type 0) (end : (fs : List Frame) (at : ℕ) → P (listed fs at)) (seven : P (refused 7)) (eleven : P (refused 11)) where
+-- what holds of every list, of `WrongLength` and of `PastTheEnd` holds of every payload
+module _ (P : Frames → Type 0) (end : (fs : List Frame) (at : ℕ) → P (listed fs at)) (seven : P (refused WrongLength)) (eleven : P (refused PastTheEnd)) where
   before : (fs : List Frame) (w : Frames) → P w → P (frames_before fs w)
   unfolding frames_before
   before fs (listed gs at) h = end (fs ++ gs) at
@@ -95,15 +98,15 @@ pub numbers : Numbers
 unfolding is_one_of frame_list nth_frame adding
 numbers p n kind size = (
   refusals (λ w. is_one_of numbers_of_list (list_number (frame_list w)) ≡ true) (λ fs end. refl) refl refl p,
-  refusals (λ w. is_one_of numbers_of_frame (found_number (nth_frame w n)) ≡ true) (λ fs end. found (get_or fs n none) (ltb n (length fs))) refl refl p,
+  refusals (λ w. is_one_of numbers_of_frame (found_number (nth_frame w n)) ≡ true) (λ fs end. found (slice_get fs n)) refl refl p,
   refusals (λ w. is_one_of numbers_of_adding (added_number (adding w kind size)) ≡ true) (λ fs end. added (is_good kind size) (ltb 424 (end + 2 + size))) refl refl p,
 )
   where
-    found : (f : Frame) (t : Bool) → is_one_of numbers_of_frame (found_number (cond t (nth.Frame f) (nth.Refused 13))) ≡ true
-    found f true = refl
-    found f false = refl
+    found : (f : Option Frame) → is_one_of numbers_of_frame (found_number (ok_or f NoFrame)) ≡ true
+    found (Some f) = refl
+    found None = refl
 
-    added : (t u : Bool) → is_one_of numbers_of_adding (added_number (cond t (cond u (Refused 9) Done) (Refused 8))) ≡ true
+    added : (t u : Bool) → is_one_of numbers_of_adding (added_number (cond t (cond u (Err NoRoom) (Ok (tt {0}))) (Err BadField))) ≡ true
     added true true = refl
     added true false = refl
     added false u = refl

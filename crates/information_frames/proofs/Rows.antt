@@ -1,18 +1,17 @@
 -- The frames of a list: one directly after the other, each with some data, all inside the application data.
 -- Assumes nothing.
-use mathlib.Core.Path.{◌≡◌, refl, subst}
-use mathlib.Core.Bool.{Bool, true, false, cond}
+use mathlib.Core.Path.{◌≡◌, refl, sym, ◌∙◌, subst}
 use mathlib.Core.List.{List, [], ◌∷◌}
 use Prim.Native.Nat.{ℕ, zero, suc, ◌+◌, ◌*◌, ◌<◌, ◌≤◌}
 use native.Mathlib.Omega.{arith}
-use lib.Dec.{ltb}
 use lib.ListN.{length, get_or, drop, length-drop}
 use lib.Seq.{length-take-le}
-use borrow.Author.Tests.{ltb-true}
 use Rattle.information_frames.specs.declared.Frame.{Frame}
-use Rattle.information_frames.specs.declared.Found.TheVariants as nth
 use Rattle.information_frames.specs.declared.FrameList.{FrameList}
-use Rattle.information_frames.specs.declared.FrameList.TheVariants as list
+use Rattle.refusals.specs.declared.Refusal.{Refusal}
+use Rattle.refusals.specs.declared.Refusal.TheVariants.{NoFrame}
+use Rattle.std.specs.Prelude.{Option, Some, None, Result, Ok, Err, ok_or, slice_get}
+use Rattle.std.proofs.lemmas.Option.{slice_get_within, get_or_from_slice_get}
 use Rattle.information_frames.specs.Frames.{length_in, headed}
 use Rattle.information_frames.specs.Walk.{Frames, listed, refused, frames_before, walk, payload_frames}
 use Rattle.information_frames.specs.Answers.{frame_list, nth_frame, data_in, none}
@@ -80,15 +79,16 @@ row_apart at (f ∷ fs) end zero (suc j) r l h = omega (arith, r.0, (row_at (at 
 row_apart at (f ∷ fs) end (suc i) (suc j) r l h = row_apart (at + (f.length + 2)) fs end i j r.2 (omega arith) (omega arith)
 
 -- the frame of a number that is answered
-found : (L : Frames) (n : ℕ) (f : Frame) → nth_frame L n ≡ nth.Frame f
+found : (L : Frames) (n : ℕ) (f : Frame) → nth_frame L n ≡ Ok f
     → (L ≡ listed (frames_in L) (end_of L)) × (n < length (frames_in L)) × (f ≡ get_or (frames_in L) n none)
 unfolding nth_frame
-found (listed fs end) n f = go (ltb n (length fs)) refl
+found (listed fs end) n f = go (slice_get fs n) refl
   where
-    go : (t : Bool) → ltb n (length fs) ≡ t → cond t (nth.Frame (get_or fs n none)) (nth.Refused 13) ≡ nth.Frame f
-        → (listed fs end ≡ listed fs end) × (n < length fs) × (f ≡ get_or fs n none)
-    go true e h = (refl, ltb-true n (length fs) e, cc)
-    go false e h = absurd (let z : ◌≡◌ {A = ℕ} 0 1 = cc in omega arith)
+    go : (g : Option Frame) → slice_get fs n ≡ g → ok_or g NoFrame ≡ Ok f → (listed fs end ≡ listed fs end) × (n < length fs) × (f ≡ get_or fs n none)
+    go (Some g) e h =
+        let i : g ≡ f = cc in
+        (refl, slice_get_within fs n g e, sym (get_or_from_slice_get fs n g none e ∙ i))
+    go None e h = absurd (let z : ◌≡◌ {A = ℕ} 0 1 = cc in omega arith)
 found (refused k) n f = λ h. absurd (let z : ◌≡◌ {A = ℕ} 0 1 = cc in omega arith)
 
 pub inside : Inside
@@ -106,12 +106,14 @@ apart p i j f g l x y =
     let b = found (payload_frames p) j g y in
     rw (a.2, b.2) (row_apart 0 _ _ i j (in_row p a.0).1 l b.1)
 
-counts : (L : Frames) {n end : ℕ} {r : FrameList} → r ≡ list.Frames n end → r ≡ frame_list L → (L ≡ listed (frames_in L) end) × (length (frames_in L) ≡ n)
+counts : (L : Frames) {l : FrameList} {r : Result FrameList Refusal} → r ≡ Ok l → r ≡ frame_list L → (L ≡ listed (frames_in L) l.end) × (length (frames_in L) ≡ l.count)
 unfolding frame_list
-counts (listed fs end) g h = (cc, cc)
-counts (refused k) g h = (cc, cc)
+counts (listed fs end) {l} g h =
+    let e : l ≡ record { count = length fs; end = end } = cc in
+    (rw e, rw e)
+counts (refused k) g h = absurd (let z : ◌≡◌ {A = ℕ} 0 1 = cc in omega arith)
 
-pub refused_is : (L : Frames) {k : ℕ} {r : FrameList} → r ≡ list.Refused k → r ≡ frame_list L → L ≡ refused k
+pub refused_is : (L : Frames) {k : Refusal} {r : Result FrameList Refusal} → r ≡ Err k → r ≡ frame_list L → L ≡ refused k
 unfolding frame_list
 refused_is (listed fs end) g h = cc
 refused_is (refused k) g h = cc
@@ -123,11 +125,11 @@ pub record Counted (p : List ℕ) (n end : ℕ) : Type 0 where
   pub inside : end ≤ 424
   pub few : n * 3 ≤ end
 
-pub counted_is : (p : List ℕ) {n end : ℕ} {r : FrameList} → r ≡ list.Frames n end → r ≡ frame_list (payload_frames p) → Counted p n end
-counted_is p {end = end} g h =
+pub counted_is : (p : List ℕ) {l : FrameList} {r : Result FrameList Refusal} → r ≡ Ok l → r ≡ frame_list (payload_frames p) → Counted p l.count l.end
+counted_is p {l} g h =
     let c = counts (payload_frames p) g h in
     let s = in_row p c.0 in
-    record { list = c.0; size = s.0; inside = s.2; few = omega (arith, row_le 0 _ end s.1, c.1) }
+    record { list = c.0; size = s.0; inside = s.2; few = omega (arith, row_le 0 _ l.end s.1, c.1) }
 
 pub at_most_141 : AtMost141
 at_most_141 p n end h =

@@ -9,6 +9,7 @@ use native.Mathlib.Nat.{add-zero}
 use lib.Dec.{eqb, ltb}
 use lib.ListN.{length, drop}
 use borrow.Author.Tests.{eq-eqb, ne_eqb, lt-ltb, le-ltb, eqb-true, eqb-false, ltb-true, ltb-false}
+use Rattle.refusals.specs.declared.Refusal.TheVariants.{WrongLength, PastTheEnd}
 use Rattle.information_frames.specs.declared.Frame.{Frame}
 use Rattle.information_frames.specs.Frames.{length_in, headed}
 use Rattle.information_frames.specs.Walk.{Frames, listed, refused, frames_before, walk, valid_bit, payload_frames}
@@ -50,7 +51,7 @@ module _ (at a b : ℕ) (xs : List ℕ) (f : Frame) (is : f ≡ headed at a b) w
   unfolding walk
   ended z = rw (size, eq-eqb f.length 0 z)
 
-  pub past : (f.length ≡ 0 → ⊥) → length xs < f.length → walk at 0 (a ∷ b ∷ xs) ≡ refused 11
+  pub past : (f.length ≡ 0 → ⊥) → length xs < f.length → walk at 0 (a ∷ b ∷ xs) ≡ refused PastTheEnd
   unfolding walk
   past z l = rw (size, ne_eqb f.length 0 z, lt-ltb (length xs) f.length l)
 
@@ -61,10 +62,10 @@ module _ (at a b : ℕ) (xs : List ℕ) (f : Frame) (is : f ≡ headed at a b) w
       let e : suc (suc at) + f.length ≡ at + (f.length + 2) = omega arith in
       rw (← is, size, ne_eqb f.length 0 z, le-ltb (length xs) f.length l, passed f.length (suc (suc at)) xs l, e)
 
--- what holds of a list that ends, of 11, and of a list with one frame more at its front, holds of every walk
+-- what holds of a list that ends, of `PastTheEnd`, and of a list with one frame more at its front, holds of every walk
 module _ (P : ℕ → List ℕ → Frames → Type 0)
     (end : (at : ℕ) (xs : List ℕ) → P at xs (listed [] at))
-    (eleven : (at a b : ℕ) (xs : List ℕ) → length xs < length_in a b → P at (a ∷ b ∷ xs) (refused 11))
+    (past_end : (at a b : ℕ) (xs : List ℕ) → length xs < length_in a b → P at (a ∷ b ∷ xs) (refused PastTheEnd))
     (front : (at a b : ℕ) (xs : List ℕ) (w : Frames) → 0 < length_in a b → length_in a b ≤ length xs
     → P (at + (length_in a b + 2)) (drop (length_in a b) xs) w → P at (a ∷ b ∷ xs) (frames_before (headed at a b ∷ []) w)) where
   every : (at skip : ℕ) (xs : List ℕ) → skip ≤ length xs → P (at + skip) (drop skip xs) (walk at skip xs)
@@ -79,9 +80,9 @@ module _ (P : ℕ → List ℕ → Frames → Type 0)
     where
       go : (t : Bool) → eqb (length_in a b) 0 ≡ t → (u : Bool) → ltb (length xs) (length_in a b) ≡ u
           → (length_in a b ≤ length xs → P (suc (suc at) + length_in a b) (drop (length_in a b) xs) (walk (suc (suc at)) (length_in a b) xs))
-          → P at (a ∷ b ∷ xs) (cond t (listed [] at) (cond u (refused 11) (frames_before (headed at a b ∷ []) (walk (suc (suc at)) (length_in a b) xs))))
+          → P at (a ∷ b ∷ xs) (cond t (listed [] at) (cond u (refused PastTheEnd) (frames_before (headed at a b ∷ []) (walk (suc (suc at)) (length_in a b) xs))))
       go true e u f ih = end at (a ∷ b ∷ xs)
-      go false e true f ih = eleven at a b xs (ltb-true (length xs) (length_in a b) f)
+      go false e true f ih = past_end at a b xs (ltb-true (length xs) (length_in a b) f)
       go false e false f ih =
           let l = ltb-false (length xs) (length_in a b) f in
           let s : suc (suc at) + length_in a b ≡ at + (length_in a b + 2) = omega arith in
@@ -92,12 +93,12 @@ module _ (P : ℕ → List ℕ → Frames → Type 0)
   every_walk at xs = rw add-zero at (every at 0 xs (omega arith))
 
 -- what holds of the walk over the application data, of the empty list and of the refusal holds of a payload's list
-module _ (p : List ℕ) (P : Frames → Type 0) (valid : length p ≡ 432 → P (walk 0 0 (drop 8 p))) (empty : length p ≡ 432 → P (listed [] 0)) (refuse : P (refused 7)) where
+module _ (p : List ℕ) (P : Frames → Type 0) (valid : length p ≡ 432 → P (walk 0 0 (drop 8 p))) (empty : length p ≡ 432 → P (listed [] 0)) (refuse : P (refused WrongLength)) where
   pub every_payload : P (payload_frames p)
   unfolding payload_frames
   every_payload = go (eqb (length p) 432) refl (eqb (valid_bit p) 1)
     where
-      go : (t : Bool) → eqb (length p) 432 ≡ t → (u : Bool) → P (cond t (cond u (walk 0 0 (drop 8 p)) (listed [] 0)) (refused 7))
+      go : (t : Bool) → eqb (length p) 432 ≡ t → (u : Bool) → P (cond t (cond u (walk 0 0 (drop 8 p)) (listed [] 0)) (refused WrongLength))
       go true e true = valid (eqb-true (length p) 432 e)
       go true e false = empty (eqb-true (length p) 432 e)
       go false e u = refuse

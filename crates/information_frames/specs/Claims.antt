@@ -1,10 +1,8 @@
 -- What is proved of listing and adding (RULES 'Uplink payloads', 'Adding a frame'), over the definitions that the contracts cite.
 -- Assumes nothing.
-use Rattle.std.specs.Prelude.{◌≡◌, Bool, true, false, ◌||◌, ℕ, ◌+◌, ◌<◌, ◌≤◌, List, [], ◌∷◌, ◌++◌, eqb, length, get_or, drop}
+use Rattle.std.specs.Prelude.{◌≡◌, Bool, true, false, ◌||◌, ℕ, ◌+◌, ◌<◌, ◌≤◌, Ok, List, [], ◌∷◌, ◌++◌, eqb, length, get_or, drop}
+use Rattle.refusals.specs.declared.Refusal.TheVariants.{PastTheEnd}
 use Rattle.information_frames.specs.declared.Frame.{Frame}
-use Rattle.information_frames.specs.declared.Found.TheVariants as nth
-use Rattle.information_frames.specs.declared.FrameList.TheVariants as list
-use Rattle.information_frames.specs.declared.Added.TheVariants.{Done}
 use Rattle.information_frames.specs.Frames.{length_in}
 use Rattle.information_frames.specs.Walk.{listed, refused, valid_bit, payload_frames}
 use Rattle.information_frames.specs.Answers.{frame_list, nth_frame, data_in, list_number, found_number}
@@ -34,12 +32,12 @@ pub record RunsPast (p : List ℕ) : Type 0 where
 abbrev pub PastIs11 : Type 0
 PastIs11 =
     (p : List ℕ) → length p ≡ 432 → valid_bit p ≡ 1
-    → (RunsPast p → payload_frames p ≡ refused 11) × (payload_frames p ≡ refused 11 → RunsPast p)
+    → (RunsPast p → payload_frames p ≡ refused PastTheEnd) × (payload_frames p ≡ refused PastTheEnd → RunsPast p)
 
 -- so a length over 422 is answered 11, wherever a frame starts: its header and its data need more than the 424 bytes
 abbrev pub Over422Is11 : Type 0
 Over422Is11 =
-    (p : List ℕ) (at : ℕ) → length p ≡ 432 → valid_bit p ≡ 1 → Starts p at → 422 < length_at p at → payload_frames p ≡ refused 11
+    (p : List ℕ) (at : ℕ) → length p ≡ 432 → valid_bit p ≡ 1 → Starts p at → 422 < length_at p at → payload_frames p ≡ refused PastTheEnd
 
 -- whether a list has a number
 unfoldable pub is_one_of : List ℕ → ℕ → Bool
@@ -66,30 +64,30 @@ Numbers =
 
 -- each frame has at least three of the 424 bytes
 abbrev pub AtMost141 : Type 0
-AtMost141 = (p : List ℕ) (n end : ℕ) → frame_list (payload_frames p) ≡ list.Frames n end → n ≤ 141
+AtMost141 = (p : List ℕ) (n end : ℕ) → frame_list (payload_frames p) ≡ Ok (record { count = n; end = end }) → n ≤ 141
 
 -- a frame that is handed out lies inside the application data, and its data are as long as it says
 abbrev pub Inside : Type 0
 Inside =
-    (p : List ℕ) (n : ℕ) (f : Frame) → nth_frame (payload_frames p) n ≡ nth.Frame f
+    (p : List ℕ) (n : ℕ) (f : Frame) → nth_frame (payload_frames p) n ≡ Ok f
     → (length p ≡ 432) × (f.at + (f.length + 2) ≤ 424) × (length (data_in p f) ≡ f.length)
 
 -- and two of them do not overlap: each is behind those before it
 abbrev pub Apart : Type 0
 Apart =
-    (p : List ℕ) (i j : ℕ) (f g : Frame) → i < j → nth_frame (payload_frames p) i ≡ nth.Frame f → nth_frame (payload_frames p) j ≡ nth.Frame g
+    (p : List ℕ) (i j : ℕ) (f g : Frame) → i < j → nth_frame (payload_frames p) i ≡ Ok f → nth_frame (payload_frames p) j ≡ Ok g
     → f.at + (f.length + 2) ≤ g.at
 
 -- a frame that was added: the list is the old one with one more at its end, and what the old frames hold is as it was
 abbrev pub AddedListed : Type 0
 AddedListed =
-    (p q : List ℕ) (kind : ℕ) (xs : List ℕ) (fs : List Frame) (end : ℕ) → payload_frames p ≡ listed fs end → Adds p kind xs Done q
+    (p q : List ℕ) (kind : ℕ) (xs : List ℕ) (fs : List Frame) (end : ℕ) → payload_frames p ≡ listed fs end → Adds p kind xs (Ok tt) q
     → (payload_frames q ≡ listed (fs ++ (new_frame end kind xs ∷ [])) (end + (length xs + 2))) × (contents q ≡ contents p ++ (new_content kind xs ∷ []))
 
 -- frames added to p one after the other, each accepted, leave q
 pub data AllAdded : List ℕ → List Content → List ℕ → Type 0 where
   nothing : {p : List ℕ} → AllAdded p [] p
-  also : {p q r : List ℕ} {kind : ℕ} {xs : List ℕ} {cs : List Content} → Adds p kind xs Done q → AllAdded q cs r → AllAdded p (new_content kind xs ∷ cs) r
+  also : {p q r : List ℕ} {kind : ℕ} {xs : List ℕ} {cs : List Content} → Adds p kind xs (Ok tt) q → AllAdded q cs r → AllAdded p (new_content kind xs ∷ cs) r
 
 -- from a payload with no frame, the frames are those that were added, in order
 abbrev pub AllAddedListed : Type 0

@@ -1,7 +1,6 @@
 -- The sample application data of 001 §5.1.4 (two fields) and §5.2.4 (one).
 -- Assumes nothing.
-use Rattle.std.specs.Prelude.{◌≡◌, ℕ, zero, suc, ◌/◌, ◌%◌, List, [], ◌∷◌, map}
-use Rattle.information_frames.specs.declared.FrameList.TheVariants as list
+use Rattle.std.specs.Prelude.{◌≡◌, ℕ, zero, suc, ◌/◌, ◌%◌, Ok, List, [], ◌∷◌, map}
 use Rattle.information_frames.specs.Walk.{payload_frames}
 use Rattle.information_frames.specs.Answers.{frame_list}
 use Rattle.information_frames.specs.Contents.{frames_in, payload_with}
@@ -63,9 +62,9 @@ textual =
 -- count, end and lengths; the rest of each field is zeros
 abbrev pub Samples : Type 0
 Samples =
-    (frame_list (payload_frames (payload_with graphical1 72)) ≡ list.Frames 7 340)
+    (frame_list (payload_frames (payload_with graphical1 72)) ≡ Ok (record { count = 7; end = 340 }))
     × (map (λ f. f.length) (frames_in (payload_frames (payload_with graphical1 72))) ≡ 38 ∷ 65 ∷ 41 ∷ 38 ∷ 65 ∷ 41 ∷ 38 ∷ [])
-    × (frame_list (payload_frames (payload_with graphical2 200)) ≡ list.Frames 12 210)
+    × (frame_list (payload_frames (payload_with graphical2 200)) ≡ Ok (record { count = 12; end = 210 }))
     × (map (λ f. f.length) (frames_in (payload_frames (payload_with graphical2 200))) ≡ 65 ∷ 41 ∷ 8 ∷ 8 ∷ 8 ∷ 8 ∷ 8 ∷ 8 ∷ 8 ∷ 8 ∷ 8 ∷ 8 ∷ [])
-    × (frame_list (payload_frames (payload_with textual 72)) ≡ list.Frames 5 345)
+    × (frame_list (payload_frames (payload_with textual 72)) ≡ Ok (record { count = 5; end = 345 }))
     × (map (λ f. f.length) (frames_in (payload_frames (payload_with textual 72))) ≡ 67 ∷ 67 ∷ 67 ∷ 67 ∷ 67 ∷ [])

@@ -1,12 +1,13 @@
 // The information frames of an uplink payload (001 §4; RULES 'Uplink payloads'): 8 bytes of header, then 424 of application data.
 #![tactic(auto)]
 
-ghost use Rattle.std.specs.Prelude.{◌≡◌, cond, ◌++◌, ◌+◌, ◌-◌, ◌≤◌, length, take, replicate};
-ghost use Rattle.std.proofs.Math.Seq.{paste};
+ghost use Rattle.std.specs.Prelude.{◌≡◌, ◌+◌, ◌≤◌, length};
 ghost use Rattle.information_frames.specs.Frames.{headed, with_valid_bit};
 ghost use Rattle.information_frames.specs.Walk.{payload_frames};
 ghost use Rattle.information_frames.specs.Answers.{scanned, frame_list, nth_frame, DataPart};
 ghost use Rattle.information_frames.specs.Adding.{is_good, with_frame, Adds};
+
+use refusals::Refusal;
 
 #[derive(Clone, Copy)]
 pub struct Frame {
@@ -19,59 +20,32 @@ pub struct Frame {
     pub kind: u8,
 }
 
+// How many frames a payload has, and the byte of the application data at which their list ends.
 #[derive(Clone, Copy)]
-pub enum FrameList {
-    // how many frames, and the byte of the application data at which their list ends
-    Frames { count: usize, end: usize },
-    // the number: 7, payload not 432 bytes; 11, a frame runs past the application data
-    Refused(u8),
+pub struct FrameList {
+    pub count: usize,
+    pub end: usize,
 }
 
+// What a walk finds: the list, and the frame that was asked for, where there is one.
 #[derive(Clone, Copy)]
-pub enum Found {
-    Frame(Frame),
-    // the number: 7, 11 as of `list`; 13, no frame with that number
-    Refused(u8),
+struct Walked {
+    list: FrameList,
+    frame: Option<Frame>,
 }
 
-#[derive(Clone, Copy)]
-pub enum Added {
-    Done,
-    // the number: 7, 11 as of `list`; 8, a type over 15 or data not of 1 to 422 bytes; 9, no room
-    Refused(u8),
-}
-
-// What a walk finds: how many frames, the list's end, and the frame that was asked for.
-#[derive(Clone, Copy)]
-enum Walked {
-    Listed(usize, usize, Frame),
-    Refused(u8),
-}
-
-// How many frames a payload has.
-pub fn list(payload: &[u8]) -> FrameList
+// How many frames a payload has: `WrongLength`, the payload has not 432 bytes; `PastTheEnd`, a frame runs past the application data.
+pub fn list(payload: &[u8]) -> Result<FrameList, Refusal>
     ensures { result ≡ frame_list (payload_frames payload.now) }
 {
-    match scan(payload, 0) {
-        Walked::Listed(count, end, _) => FrameList::Frames { count, end },
-        Walked::Refused(k) => FrameList::Refused(k),
-    }
+    Ok(scan(payload, 0)?.list)
 }
 
-// Frame n, numbered from 0.
-pub fn nth(payload: &[u8], n: usize) -> Found
+// Frame n, numbered from 0: refused as `list` is, then `NoFrame`.
+pub fn nth(payload: &[u8], n: usize) -> Result<Frame, Refusal>
     ensures { result ≡ nth_frame (payload_frames payload.now) n }
 {
-    match scan(payload, n) {
-        Walked::Listed(count, _, frame) => {
-            if n < count {
-                Found::Frame(frame)
-            } else {
-                Found::Refused(13)
-            }
-        }
-        Walked::Refused(k) => Found::Refused(k),
-    }
+    scan(payload, n)?.frame.ok_or(Refusal::NoFrame)
 }
 
 // The data of frame n, in the caller's own memory; an empty part on a refusal.
@@ -79,64 +53,63 @@ pub fn data<'a>(payload: &'a [u8], n: usize) -> &'a [u8]
     ensures { DataPart (nth_frame (payload_frames payload.now) n) payload.now payload.entry.ref_ptr result.now result.ref_ptr }
 {
     match nth(payload, n) {
-        Found::Frame(f) => {
+        Ok(f) => {
             let start = f.at + 10;
             let end = start + f.length;
             &payload[start..end]
         }
-        Found::Refused(_) => &payload[0..0],
+        Err(_) => &payload[0..0],
     }
 }
 
-// One frame more at the list's end.
-pub fn add(payload: &mut [u8], kind: u8, bytes: &[u8]) -> Added
+// One frame more at the list's end: refused as `list` is, then `BadField`, a type over 15 or data not of 1 to 422 bytes; `NoRoom`.
+pub fn add(payload: &mut [u8], kind: u8, bytes: &[u8]) -> Result<(), Refusal>
     ensures { Adds payload.old kind bytes.now result payload.new }
 {
-    match list(payload) {
-        FrameList::Frames { count: _, end } => {
-            let n = bytes.len();
-            if !is_good(kind, n) {
-                return Added::Refused(8);
-            }
-            if 424 < end + 2 + n {
-                return Added::Refused(9);
-            }
-            put(payload, end, kind, bytes);
-            Added::Done
-        }
-        FrameList::Refused(k) => Added::Refused(k),
+    let end = list(payload)?.end;
+    let n = bytes.len();
+    if !is_good(kind, n) {
+        return Err(Refusal::BadField);
     }
+    if 424 < end + 2 + n {
+        return Err(Refusal::NoRoom);
+    }
+    put(payload, end, kind, bytes);
+    Ok(())
 }
 
-// The walk over the application data, which remembers frame n.
-fn scan(payload: &[u8], n: usize) -> Walked
+// The walk over the application data, which remembers frame n. Each step is as long as the bytes read there say: no counted loop.
+fn scan(payload: &[u8], n: usize) -> Result<Walked, Refusal>
     ensures { result ≡ scanned n (payload_frames payload.now) }
 {
-    // none yet
-    let mut frame = header(0, 0, 0);
     if payload.len() != 432 {
-        return Walked::Refused(7);
+        return Err(Refusal::WrongLength);
     }
+    let mut list = FrameList { count: 0, end: 0 };
+    let mut frame = None;
     // bit 5 of the seventh header byte
     if payload[6] / 32 % 2 != 1 {
-        return Walked::Listed(0, 0, frame);
+        return Ok(Walked { list, frame });
     }
-    let mut at = 0;
-    let mut count = 0;
-    while at < 423 {
+    while list.end < 423 {
+        let at = list.end;
         let f = header(at, payload[at + 8], payload[at + 9]);
         let size = f.length;
         if size == 0 {
-            return Walked::Listed(count, at, frame);
+            break;
         }
         if 422 - at < size {
-            return Walked::Refused(11);
+            return Err(Refusal::PastTheEnd);
         }
-        frame = kept(count == n, f, frame);
-        count += 1;
-        at += size + 2;
+        if list.count == n {
+            frame = Some(f);
+        }
+        list = FrameList {
+            count: list.count + 1,
+            end: at + (size + 2),
+        };
     }
-    Walked::Listed(count, at, frame)
+    Ok(Walked { list, frame })
 }
 
 // The frame at byte `at` whose header is the bytes a and b: nine bits of length: the first byte whole and bit 7 of the next;
@@ -152,18 +125,11 @@ fn header(at: usize, a: u8, b: u8) -> Frame
     }
 }
 
-// The frame to remember: this one where it is the one asked for.
-fn kept(this: bool, f: Frame, g: Frame) -> Frame
-    ensures { result ≡ cond this f g }
-{
-    if this { f } else { g }
-}
-
 // A type of four bits, and 1 to 422 bytes of data.
 fn is_good(kind: u8, n: usize) -> bool
     ensures { result ≡ is_good kind n }
 {
-    (kind <= 15) & (1 <= n) & (n <= 422)
+    kind <= 15 && 1 <= n && n <= 422
 }
 
 // A frame at byte `end`, zeros behind it, and the valid bit set.
@@ -175,7 +141,8 @@ fn put(payload: &mut [u8], end: usize, kind: u8, bytes: &[u8])
     payload[6] = with_valid_bit(payload[6]);
     payload[end + 8] = (n / 2) as u8;
     payload[end + 9] = (n % 2 * 128) as u8 + kind;
-    fill_from(payload, end + 10, bytes);
+    payload[end + 10..end + 10 + n].copy_from_slice(bytes);
+    payload[end + 10 + n..].fill(0);
 }
 
 // Bit 5 set, the other bits as they were.
@@ -183,35 +150,4 @@ fn with_valid_bit(b: u8) -> u8
     ensures { result ≡ with_valid_bit b }
 {
     b + (1 - b / 32 % 2) * 32
-}
-
-// The bytes from byte `at` on, and zeros behind them.
-fn fill_from(payload: &mut [u8], at: usize, bytes: &[u8])
-    requires { (length payload.old ≡ 432) × (at + length bytes.now ≤ 432) }
-    ensures { payload.new ≡ take at payload.old ++ (bytes.now ++ replicate (432 - (at + length bytes.now)) 0) }
-{
-    copy_to(payload, at, bytes);
-    clear_from(payload, at + bytes.len());
-}
-
-fn copy_to(payload: &mut [u8], at: usize, bytes: &[u8])
-    requires { at + length bytes.now ≤ length payload.old }
-    ensures { payload.new ≡ paste payload.old at bytes.now (length bytes.now) }
-{
-    let mut i = 0;
-    while i < bytes.len() {
-        payload[at + i] = bytes[i];
-        i += 1;
-    }
-}
-
-fn clear_from(payload: &mut [u8], at: usize)
-    requires { at ≤ length payload.old }
-    ensures { payload.new ≡ take at payload.old ++ replicate (length payload.old - at) 0 }
-{
-    let mut i = 0;
-    while i < payload.len() - at {
-        payload[at + i] = 0;
-        i += 1;
-    }
 }

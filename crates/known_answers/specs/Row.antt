@@ -1,6 +1,6 @@
 -- A row of the table of values (RULES 'Values'): what the library's definitions work out, and what that is.
 -- Assumes nothing.
-use Rattle.std.specs.Prelude.{◌≡◌, ℕ, ◌+◌, ◌*◌, ◌/◌, ◌%◌, true, false, List, [], ◌∷◌, ◌++◌, map, ℤ, pos, negsuc, length, replicate}
+use Rattle.std.specs.Prelude.{◌≡◌, ℕ, ◌+◌, ◌*◌, ◌/◌, ◌%◌, true, false, List, [], ◌∷◌, ◌++◌, map, ℤ, pos, negsuc, length, replicate, Result}
 use Rattle.fcs.specs.Fcs.{fcs}
 use Rattle.framing.specs.Stuffing.{flag}
 use Rattle.framing.specs.Frame.{frame_of}
@@ -16,6 +16,7 @@ use Rattle.message_types.specs.declared.Message.TheVariants.{Heartbeat, Traffic}
 use Rattle.message_types.specs.declared.Reading.{Reading}
 use Rattle.message_types.specs.declared.Reading.TheVariants.{Message}
 use Rattle.messages.specs.Message.{read_message}
+use Rattle.refusals.specs.declared.Refusal.{Refusal}
 use Rattle.information_frames.specs.declared.FrameList.{FrameList}
 use Rattle.information_frames.specs.Frames.{length_in}
 use Rattle.information_frames.specs.Walk.{payload_frames}
@@ -41,7 +42,7 @@ pub data Row : Type 0 where
   -- the two bytes of an information frame's header, and its length
   header : ℕ → ℕ → ℕ → Row
   -- a header at byte 0 of valid application data with zeros behind it, and what listing answers
-  list : ℕ → ℕ → FrameList → Row
+  list : ℕ → ℕ → Result FrameList Refusal → Row
   -- valid application data of 352 bytes with zeros behind it, and the texts that its frames hold
   texts : List ℕ → List Decoded → Row
   -- the same, and the bytes of those texts, written

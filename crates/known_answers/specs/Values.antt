@@ -1,11 +1,11 @@
 -- RULES 'Values': the starred ones, 1 to 10, as one list, and the claim that every row holds. Then value 11, and
 -- examples of 001.
 -- Assumes nothing.
-use Rattle.std.specs.Prelude.{List, [], ◌∷◌, pos, negsuc}
+use Rattle.std.specs.Prelude.{List, [], ◌∷◌, pos, negsuc, Ok, Err}
 use Rattle.collecting.specs.Stream.{message, refused}
 use Rattle.message_types.specs.declared.Climb.TheVariants.{Steps}
 use Rattle.message_types.specs.declared.Reading.TheVariants.{Refused}
-use Rattle.information_frames.specs.declared.FrameList.TheVariants as frames
+use Rattle.refusals.specs.declared.Refusal.TheVariants.{PastTheEnd}
 use Rattle.information_frames.specs.Samples.{bytes_of, textual}
 use Rattle.known_answers.specs.Row.{Row, sequence, frame, shortest, longest, between, read, feet, header, list, texts, rewritten, heartbeat_with, traffic_message, traffic_with, report_of, AllHold}
 
@@ -48,8 +48,8 @@ starred =
     ∷ header 0x96 0x00 300
     ∷ header 0x00 0x80 1
     ∷ header 0xD3 0x00 422
-    ∷ list 0xD3 0x00 (frames.Frames 1 424)
-    ∷ list 0xD3 0x80 (frames.Refused 11)
+    ∷ list 0xD3 0x00 (Ok (record { count = 1; end = 424 }))
+    ∷ list 0xD3 0x80 (Err PastTheEnd)
     ∷ []
 
 abbrev pub Starred : Type 0

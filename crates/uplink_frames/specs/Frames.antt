@@ -1,9 +1,16 @@
 -- The information frames of an uplink message (RULES 'Uplink payloads').
 -- Assumes nothing.
-use Rattle.std.specs.Prelude.{ℕ, cond, List, eqb}
-use Rattle.uplink.specs.Uplink.{uplink_read, payload_of}
+use Rattle.std.specs.Prelude.{ℕ, List, Result, Ok, Err}
+use Rattle.refusals.specs.declared.Refusal.{Refusal}
+use Rattle.message_types.specs.declared.Uplink.{Uplink}
+use Rattle.uplink.specs.Uplink.{read_uplink, payload_of}
 use Rattle.information_frames.specs.Walk.{Frames, refused, payload_frames}
 
--- refused as reading the message is, 6, 7, 8; then as the walk over its payload is
+-- those of the payload of a message that was read, or its refusal
+abbrev pub frames_read : List ℕ → Result Uplink Refusal → Frames
+frames_read m (Ok u) = payload_frames (payload_of m)
+frames_read m (Err k) = refused k
+
+-- refused as reading the message is; then as the walk over its payload is
 unfoldable pub message_frames : List ℕ → Frames
-message_frames m = cond (eqb (uplink_read m).number 0) (payload_frames (payload_of m)) (refused (uplink_read m).number)
+message_frames m = frames_read m (read_uplink m)

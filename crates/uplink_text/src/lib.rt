@@ -5,15 +5,13 @@
 ghost use Rattle.generic_text.specs.Answers.{ReadText};
 ghost use Rattle.uplink_text.specs.Texts.{message_text};
 
-use generic_text::TextReading;
-use information_frames::Found;
+use generic_text::Text;
+use refusals::Refusal;
 
 // Reads the text of frame n, numbered from 0, to the start of `out`. The frame's type is not looked at: `uplink_frames::nth` has it.
-pub fn read(message: &[u8], n: usize, out: &mut [u8]) -> TextReading
+pub fn read(message: &[u8], n: usize, out: &mut [u8]) -> Result<Text, Refusal>
     ensures { ReadText (message_text message.now n) out.old result out.new }
 {
-    match uplink_frames::nth(message, n) {
-        Found::Frame(_) => generic_text::read(uplink_frames::data(message, n), out),
-        Found::Refused(k) => TextReading::Refused(k),
-    }
+    uplink_frames::nth(message, n)?;
+    generic_text::read(uplink_frames::data(message, n), out)
 }

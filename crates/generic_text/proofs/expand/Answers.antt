@@ -1,15 +1,33 @@
--- `generic_text::expand` meets its contract. The loop's invariant: what is left is to store the text that is left.
+-- `generic_text::expand` meets its contract.
 -- Assumes nothing.
-use mathlib.Core.Path.{◌∙◌}
-use Rattle.generic_text.proofs.Expanding.{expand_more, expand_end}
+use mathlib.Core.Path.{sym, ◌∙◌}
+use Prim.Native.Nat.{◌+◌, ◌≤◌}
+use native.Mathlib.Omega.{arith}
+use lib.ListN.{length, length-replicate}
+use Rattle.numbers.proofs.Storing.{stored-length}
+use Rattle.generic_text.proofs.Expanding.{stored_part, filled, expand_more, run_passes, told, run_ends, expand_room, expand_end, no_fault}
 use Rattle.generic_text.proofs.expand.Goals as goal
 
-pub returns-then-run-eq0 : goal.returns-then-run-eq0
-returns-then-run-eq0 c = expand_end _ c.loop-s.invariant.1 c.requires.2 c.next_run-run.ensures c.if-run-eq0.true
+pub loop-next-preserved-in-Some : goal.loop-next-preserved-in-Some
+loop-next-preserved-in-Some c =
+    let l = c.loop-next in
+    let h = c.in-Some.ensures.0 in
+    let room = expand_room _ l.invariant.1 _ h c.requires in
+    let s = stored_part l.out _ _ l.at 4 (omega (arith, room, c.in-Some.ensures.1, l.invariant.0)) c.in-Some.ensures.1 c.copy_from_slice.ensures.after in
+    (stored-length s ∙ l.invariant.0, expand_more _ l.invariant.1 _ h s)
 
-pub loop-s-preserved : goal.loop-s-preserved
-loop-s-preserved c =
-    let h = c.next_run-run.ensures.run c.if-run-eq0.false in
-    let l = c.loop-s in
-    let p = c.fill-at in
-    (p.auto.out ∙ l.invariant.0, expand_more _ l.invariant.1 _ h p.ensures)
+pub loop-next-preserved : goal.loop-next-preserved
+loop-next-preserved c =
+    let l = c.loop-next in
+    let h = run_passes (c.in-Some-unwrap_or.run', c.in-Some-unwrap_or.rest) c.next_run.ensures (told _ (sym c.unwrap_or.ensures ∙ c.in-Some-unwrap_or.is)) in
+    let room = expand_room _ l.invariant.1 _ h c.requires in
+    let k = c.in-Some-unwrap_or.run'.times in
+    let size = length-replicate k c.in-Some-unwrap_or.run'.byte in
+    let fits : l.at + k ≤ length l.out = omega (arith, room, size, l.invariant.0) in
+    let s = stored_part l.out _ _ l.at k fits size (filled l.out l.at k _ _ fits (c.fill.ensures.after (λ y e. e))) in
+    (stored-length s ∙ l.invariant.0, expand_more _ l.invariant.1 _ h s)
+
+pub returns-in_default-unwrap_or : goal.returns-in_default-unwrap_or
+returns-in_default-unwrap_or c =
+    let x = c.loop-next.invariant.1 in
+    expand_end _ x c.requires (run_ends _ _ (no_fault _ x) c.next_run.ensures (sym c.unwrap_or.ensures ∙ c.in_default-unwrap_or.is))

@@ -2,12 +2,12 @@
 -- Assumes nothing.
 use mathlib.Core.Path.{◌≡◌}
 use lib.ListN.{length}
-use Rattle.generic_text.specs.Cursor.{codes_from}
+use Rattle.generic_text.specs.Codes.{codes_left}
 use Rattle.generic_text.proofs.Expanding.{Expanded}
 use Rattle.generic_text.proofs.expand.Given as goal
 
-abbrev pub invariant-loop-s : goal.invariant-loop-s
-invariant-loop-s l = (length l.out ≡ length l.initial.out) × Expanded l.apdu l.initial.out l.out l.s l.at
+abbrev pub invariant-loop-next : goal.invariant-loop-next
+invariant-loop-next l = (length l.out ≡ length l.initial.out) × Expanded (codes_left l.initial.codes) l.initial.out l.out (codes_left l.codes) l.at
 
-abbrev pub decreases-loop-s : goal.decreases-loop-s
-decreases-loop-s l = length (codes_from l.apdu l.s)
+abbrev pub decreases-loop-next : goal.decreases-loop-next
+decreases-loop-next l = length (codes_left l.codes)

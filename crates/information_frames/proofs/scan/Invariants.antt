@@ -4,8 +4,8 @@ use Prim.Native.Nat.{◌-◌}
 use Rattle.information_frames.proofs.Scanning.{Reached}
 use Rattle.information_frames.proofs.scan.Given as goal
 
-abbrev pub invariant-loop-at : goal.invariant-loop-at
-invariant-loop-at l = Reached l.payload l.n l.at l.count l.frame
+abbrev pub invariant-loop-list : goal.invariant-loop-list
+invariant-loop-list l = Reached l.payload l.n l.list.end l.list.count l.frame
 
-abbrev pub decreases-loop-at : goal.decreases-loop-at
-decreases-loop-at l = 424 - l.at
+abbrev pub decreases-loop-list : goal.decreases-loop-list
+decreases-loop-list l = 424 - l.list.end

@@ -1,0 +1,9 @@
+-- `generic_text::six_bits::character` meets its contract: the list in the code is that of the definitions.
+-- Assumes nothing.
+use mathlib.Core.Path.{refl}
+use Rattle.characters.specs.Characters.{character_of}
+use Rattle.generic_text.proofs.six_bits.character.Goals as goal
+
+pub returns : goal.returns
+unfolding character_of
+returns c = refl
