@@ -6,8 +6,6 @@
 
 ghost use Rattle.std.specs.Prelude.{◌+◌, ◌≤◌, ◌<◌, length};
 
-use framing::Framed;
-
 fn print_answer(rt: &impl Print, number: u8, size: usize, out: &[u8]) {
     let _ = print!(rt; "{number} {size} ");
     if out.len() == 0 {
@@ -18,10 +16,9 @@ fn print_answer(rt: &impl Print, number: u8, size: usize, out: &[u8]) {
 }
 
 fn frame_message(rt: &impl Print, message: &[u8], out: &mut [u8]) {
-    let framed = framing::frame(message, out);
-    match framed {
-        Framed::Bytes(n) => print_answer(rt, 0, n, out),
-        Framed::Refused(k) => print_answer(rt, k, 0, out),
+    match framing::frame(message, out) {
+        Ok(n) => print_answer(rt, 0, n, out),
+        Err(refusal) => print_answer(rt, refusal.number(), 0, out),
     }
 }
 

@@ -1,7 +1,7 @@
 -- What framing and collecting answer, as C has it (RULES 'Structs for C').
 -- Assumes nothing.
-use Rattle.std.specs.Prelude.{◌≡◌, ℕ, cond, List, eqb, leb, length}
-use Rattle.framing.specs.declared.Framed.{Framed}
+use Rattle.std.specs.Prelude.{◌≡◌, ℕ, cond, List, eqb, leb, length, Result}
+use Rattle.refusals.specs.declared.Refusal.{Refusal}
 use Rattle.framing.specs.Framing.{framed_number, framed_size}
 use Rattle.collecting.specs.declared.Phase.{Phase}
 use Rattle.collecting.specs.declared.Phase.TheVariants.{LeadIn, Open, Escape, BadEscape, TooLong}
@@ -19,7 +19,7 @@ use Rattle.gdl90.specs.declared.FeedAnswer.{FeedAnswer}
 use Rattle.gdl90.specs.declared.RecordingAnswer.{RecordingAnswer}
 
 -- the number, and the bytes written, 0 with a refusal
-abbrev pub frame_answer : Framed → FrameAnswer
+abbrev pub frame_answer : Result ℕ Refusal → FrameAnswer
 frame_answer f = record { number = framed_number f; length = framed_size f }
 
 abbrev pub phase_number : Phase → ℕ

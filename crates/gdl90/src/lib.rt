@@ -29,7 +29,6 @@ use c_structs::{
     FlatGeometric, FlatGeometricRead, FlatHeight, FlatHeightRead, FlatUplink, FlatUplinkRead,
 };
 use collecting::{Answer, Control, Fed, Phase};
-use framing::Framed;
 use generic_text::Text;
 use message_types::{
     Heartbeat, HeartbeatRead, Initialization, InitializationRead, Ownship, Traffic,
@@ -38,7 +37,7 @@ use messages::Kind;
 use recording::Recorded;
 use refusals::Refusal;
 use tallying::Tally;
-use units::{GeometricSteps, InDegrees, PressureSteps, TerrainFeet};
+use units::{GeometricSteps, PressureSteps, TerrainFeet};
 
 // 001 Table 9.
 const LAST_TRACK_KIND: u8 = 3;
@@ -63,16 +62,18 @@ pub fn gdl90_frame(message: &[u8], out: &mut [u8]) -> FrameAnswer
     ensures answer { result ≡ frame_answer (framing message.now (length out.old)) }
     ensures output { out.new ≡ written (framed_output (framing message.now (length out.old)) message.now) out.old }
 {
-    let framed = framing::frame(message, out);
-    frame_answer(framed)
+    frame_answer(framing::frame(message, out))
 }
 
-fn frame_answer(framed: Framed) -> FrameAnswer
+fn frame_answer(framed: Result<usize, Refusal>) -> FrameAnswer
     ensures { result ≡ frame_answer framed }
 {
     match framed {
-        Framed::Bytes(length) => FrameAnswer { number: 0, length },
-        Framed::Refused(number) => FrameAnswer { number, length: 0 },
+        Ok(length) => FrameAnswer { number: 0, length },
+        Err(refusal) => {
+            let number = refusal.number();
+            FrameAnswer { number, length: 0 }
+        }
     }
 }
 
@@ -638,13 +639,13 @@ pub fn gdl90_degrees(latitude: i32, longitude: i32) -> DegreesAnswer
     ensures exact { ExactAnswer latitude longitude result }
 {
     match units::in_degrees(latitude, longitude) {
-        InDegrees::At(d) => DegreesAnswer {
+        Ok(d) => DegreesAnswer {
             number: 0,
             latitude: d.latitude,
             longitude: d.longitude,
         },
-        InDegrees::Refused(number) => DegreesAnswer {
-            number,
+        Err(refusal) => DegreesAnswer {
+            number: refusal.number(),
             latitude: 0.0,
             longitude: 0.0,
         },

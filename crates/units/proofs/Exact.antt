@@ -6,8 +6,8 @@ use Prim.Native.Nat.{ℕ, zero, suc, ◌+◌, ◌-◌, ◌*◌, ◌/◌, ◌%◌
 use native.Mathlib.Nat.{mul_assoc, mul_comm, mul_left_comm, mul_right_comm, mul-one, eq_of_mul-eq-mul_right, lt_of_le_of_lt, lt_of_lt_of_le, lt_trans, le_of_lt, mul-pos, le_of_suc-le-suc}
 use native.Mathlib.Omega.{arith}
 use lib.Arith.{lt_of_le-ne}
-use borrow.Author.Tests.{ne_eqb, eqb-false, leb-false}
-use lib.Dec.{leb, eqb, lit<, lit≤}
+use borrow.Author.Tests.{ne_eqb, eqb-false, leb-false, ltb-true}
+use lib.Dec.{leb, ltb, eqb, lit<, lit≤}
 use lib.Pow.{pow-add, shl_lt, pow_mono}
 use lib.IntN.{ℤ, pos, negsuc, nat_abs}
 use lib.Signed.{mag, non_neg}
@@ -16,7 +16,8 @@ use lib.Ieee.Fits.{down_pos, div-fits}
 use lib.Ieee.Exact.{HasValue, round_exact, odd_sign}
 use lib.Ieee.Back.{round_whole}
 use lib.Ieee.Bits.{of_bits-to_bits}
-use Rattle.units.specs.declared.InDegrees.TheVariants.{At, Refused}
+use Rattle.std.specs.Prelude.{Ok, Err}
+use Rattle.refusals.specs.declared.Refusal.TheVariants.{BadField}
 use Rattle.units.specs.Degrees.{degrees, in_degrees, Exactly, ExactlyAt}
 use Rattle.units.specs.Claims.{ExactDegrees}
 
@@ -167,12 +168,16 @@ exactly n h =
     let f = fields (leb 9223372036854775808 b) (not (non_neg n)) (b % 9223372036854775808 / 4503599627370496) (b % 4503599627370496) (180 * nat_abs n) (omega arith) v in
     record { sign = f.0; finite = f.1; value = f.2 }
 
+-- as the code tests it
+pub exact_step : (n : ℤ) {x : Float} → ltb (mag n) 8388608 ≡ true → x ≡ degrees n → Exactly n (to_bits binary64 x)
+exact_step n e d = rw d (exactly n (ltb-true (mag n) 8388608 e))
+
 pub exact_degrees : ExactDegrees
 unfolding in_degrees ExactlyAt
 exact_degrees a o = go (leb 8388608 (mag a)) refl (leb 8388608 (mag o)) refl
   where
     go : (s : Bool) → leb 8388608 (mag a) ≡ s → (t : Bool) → leb 8388608 (mag o) ≡ t
-        → ExactlyAt a o (cond s (Refused 8) (cond t (Refused 8) (At (record { latitude = degrees a; longitude = degrees o }))))
+        → ExactlyAt a o (cond s (Err BadField) (cond t (Err BadField) (Ok (record { latitude = degrees a; longitude = degrees o }))))
     go true e t f = refl
     go false e true f = refl
     go false e false f = (exactly a (leb-false 8388608 (mag a) e), exactly o (leb-false 8388608 (mag o) f))

@@ -1,22 +1,23 @@
 -- Steps as degrees (001 §3.5.1.3, RULES 'Degrees'). That nothing is lost is said over whole numbers, of the float's 64 bits.
 -- Assumes nothing.
-use Rattle.std.specs.Prelude.{◌≡◌, Bool, cond, not, ℕ, ◌+◌, ◌-◌, ◌*◌, ◌/◌, ◌%◌, ◌^◌, ◌<◌, leb, eqb, ℤ, nat_abs, Float}
+use Rattle.std.specs.Prelude.{◌≡◌, Bool, cond, not, ℕ, ◌+◌, ◌-◌, ◌*◌, ◌/◌, ◌%◌, ◌^◌, ◌<◌, leb, eqb, ℤ, nat_abs, Float, Result, Ok, Err}
 use Rattle.std.specs.Int.Signed.{non_neg, mag}
 use Rattle.std.specs.Float.{binary64}
 use Rattle.std.specs.Float.Ieee.{mul, div, of_int, of_bits, to_bits}
+use Rattle.refusals.specs.declared.Refusal.{Refusal}
+use Rattle.refusals.specs.declared.Refusal.TheVariants.{BadField}
+use Rattle.refusals.specs.Numbers.{refusal_number}
 use Rattle.units.specs.declared.Degrees.{Degrees}
-use Rattle.units.specs.declared.InDegrees.{InDegrees}
-use Rattle.units.specs.declared.InDegrees.TheVariants.{At, Refused}
 
 -- the float n, times 180.0, over 8388608.0
 abbrev pub degrees : ℤ → Float
 degrees n = div binary64 (mul binary64 (of_int binary64 n) (of_bits binary64 0x4066_8000_0000_0000)) (of_bits binary64 0x4160_0000_0000_0000)
 
 -- 8 for a step number that 24 bits do not hold: `mag` of n and of -(n + 1) is n
-unfoldable pub in_degrees : ℤ → ℤ → InDegrees
+unfoldable pub in_degrees : ℤ → ℤ → Result Degrees Refusal
 in_degrees latitude longitude =
-    cond (leb 8388608 (mag latitude)) (Refused 8)
-    (cond (leb 8388608 (mag longitude)) (Refused 8) (At (record { latitude = degrees latitude; longitude = degrees longitude })))
+    cond (leb 8388608 (mag latitude)) (Err BadField)
+    (cond (leb 8388608 (mag longitude)) (Err BadField) (Ok (record { latitude = degrees latitude; longitude = degrees longitude })))
 
 -- the three fields of a float's 64 bits
 abbrev pub sign_bit : ℕ → Bool
@@ -40,15 +41,15 @@ pub record Exactly (n : ℤ) (b : ℕ) : Type 0 where
   pub value : significand b * 2 ^ (exponent b - 1 + 23) ≡ 180 * nat_abs n * 2 ^ 1074
 
 -- an answer that is no refusal is exact
-unfoldable pub ExactlyAt : ℤ → ℤ → InDegrees → Type 0
-ExactlyAt latitude longitude (At d) = Exactly latitude (to_bits binary64 d.latitude) × Exactly longitude (to_bits binary64 d.longitude)
-ExactlyAt latitude longitude (Refused k) = k ≡ 8
+unfoldable pub ExactlyAt : ℤ → ℤ → Result Degrees Refusal → Type 0
+ExactlyAt latitude longitude (Ok d) = Exactly latitude (to_bits binary64 d.latitude) × Exactly longitude (to_bits binary64 d.longitude)
+ExactlyAt latitude longitude (Err e) = e ≡ BadField
 
 -- the number and the two values for each case, 0 beside a refusal
-abbrev pub degrees_number : InDegrees → ℕ
-degrees_number (At d) = 0
-degrees_number (Refused k) = k
+abbrev pub degrees_number : Result Degrees Refusal → ℕ
+degrees_number (Ok d) = 0
+degrees_number (Err e) = refusal_number e
 
-abbrev pub degrees_of : InDegrees → Degrees
-degrees_of (At d) = d
-degrees_of (Refused k) = record { latitude = of_bits binary64 0; longitude = of_bits binary64 0 }
+abbrev pub degrees_of : Result Degrees Refusal → Degrees
+degrees_of (Ok d) = d
+degrees_of (Err e) = record { latitude = of_bits binary64 0; longitude = of_bits binary64 0 }

@@ -2,11 +2,13 @@
 // (RULES 'Units', 'Degrees', 'Time of day').
 #![tactic(auto)]
 
-ghost use Rattle.std.specs.Prelude.{◌≡◌};
+ghost use Rattle.std.specs.Prelude.{◌≡◌, ltb};
 ghost use Rattle.std.specs.Int.Signed.{mag};
 ghost use Rattle.units.specs.Degrees.{degrees, in_degrees, ExactlyAt};
 ghost use Rattle.units.specs.Feet.{pressure_feet, geometric_feet, terrain_feet};
 ghost use Rattle.units.specs.TimeOfDay.{is_time_of_day};
+
+use refusals::Refusal;
 
 // Pressure altitude in steps of 25 feet, from 1,000 feet below zero on.
 #[repr(C)]
@@ -29,6 +31,7 @@ pub struct TerrainFeet {
     pub feet: i16,
 }
 
+// Three ways to feet and no trait over them: each unit has a formula of its own, and nothing takes whichever unit comes.
 impl PressureSteps {
     pub fn feet(self) -> i32
         ensures { result ≡ pressure_feet self }
@@ -59,41 +62,32 @@ pub struct Degrees {
     pub longitude: f64,
 }
 
-#[derive(Clone, Copy)]
-pub enum InDegrees {
-    At(Degrees),
-    // 8: a step number that 24 bits do not hold
-    Refused(u8),
-}
-
 // Two step numbers as degrees: each times 180, over 2 to the 23rd, and neither loses anything.
-pub fn in_degrees(latitude: i32, longitude: i32) -> InDegrees
+#[tactic(auto, unfolding(crate::specs::Degrees::in_degrees, crate::specs::Degrees::ExactlyAt))]
+pub fn in_degrees(latitude: i32, longitude: i32) -> Result<Degrees, Refusal>
     ensures value { result ≡ in_degrees latitude longitude }
     ensures exact { ExactlyAt latitude longitude result }
 {
-    if 8388608 <= magnitude(latitude) {
-        return InDegrees::Refused(8);
+    if !is_step(latitude) || !is_step(longitude) {
+        return Err(Refusal::BadField);
     }
-    if 8388608 <= magnitude(longitude) {
-        return InDegrees::Refused(8);
-    }
-    InDegrees::At(Degrees {
+    Ok(Degrees {
         latitude: degrees_of(latitude),
         longitude: degrees_of(longitude),
     })
+}
+
+// Whether 24 bits hold a step number.
+fn is_step(n: i32) -> bool
+    ensures { result ≡ ltb (mag n) 8388608 }
+{
+    -8388608 <= n && n < 8388608
 }
 
 fn degrees_of(n: i32) -> f64
     ensures { result ≡ degrees n }
 {
     n as f64 * 180.0 / 8388608.0
-}
-
-// n for n and for -(n + 1).
-fn magnitude(n: i32) -> u32
-    ensures { result ≡ mag n }
-{
-    if n < 0 { (!n) as u32 } else { n as u32 }
 }
 
 // The last second of a day that ends with a leap second, 23:59:60.

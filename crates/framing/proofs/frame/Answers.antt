@@ -1,30 +1,29 @@
--- `framing::frame` meets its contract, by the message's length and the output's.
+-- `framing::frame` meets its contract: four parts, one behind the other.
 -- Assumes nothing.
-use native.Mathlib.Omega.{arith}
-use mathlib.Core.Path.{refl}
-use Rattle.numbers.specs.Lent.{written}
-use Rattle.framing.proofs.Escaping.{its_frame, its_size}
-use Rattle.framing.proofs.Answering.{empty, long, no_room, done}
+use Rattle.std.proofs.Common.{rules, arith}
+use Rattle.std.proofs.lemmas.Bool.Decides.{nat_tests}
+use Rattle.numbers.proofs.Storing.{then, stored-length}
+use Rattle.framing.specs.Framing.{framing}
+use Rattle.framing.proofs.Escaping.{its_size}
+use Rattle.framing.proofs.Answering.{done}
 use Rattle.framing.proofs.frame.Goals as goal
 
-pub returns-then-message-lt1 : goal.returns-then-message-lt1
-unfolding written
-returns-then-message-lt1 c = record { answer = empty c.args.message.now _ c.if-message-lt1.true; output = refl }
+pub returns-then-out-stuffed_length-clause-answer : goal.returns-then-out-stuffed_length-clause-answer
+unfolding framing
+returns-then-out-stuffed_length-clause-answer c =
+    let size = its_size c.args.message.now c.sequence_bytes-sequence.ensures in
+    grind (arith, nat_tests)
 
-pub returns-then-message-gt436 : goal.returns-then-message-gt436
-unfolding written
-returns-then-message-gt436 c = record { answer = long c.args.message.now _ c.if-message-lt1.false c.if-message-gt436.true; output = refl }
+pub put_stuffed-requires-2 : goal.put_stuffed-requires-2
+put_stuffed-requires-2 c = omega (arith, stored-length c.put.ensures.stored, stored-length c.put_stuffed.ensures.stored)
 
-pub returns-then-out-frame_length : goal.returns-then-out-frame_length
-unfolding written
-returns-then-out-frame_length c =
-    let m = c.args.message.now in
-    record { answer = no_room m _ c.if-message-lt1.false c.if-message-gt436.false (omega (arith, its_size m c.check_sequence-sequence.result c.check_sequence-sequence.ensures)); output = refl }
+pub put-requires-2 : goal.put-requires-2
+put-requires-2 c =
+    omega (arith, stored-length c.put.ensures.stored, stored-length c.put_stuffed.ensures.stored, stored-length c.put_stuffed-2.ensures.stored)
 
 pub returns : goal.returns
 returns c =
-    let a = c.args in
-    let m = a.message.now in
-    let s = c.check_sequence-sequence in
-    let d = done m a.out.now c.put_frame.new.out c.put_frame.result c.if-message-lt1.false c.if-message-gt436.false (omega (arith, its_size m s.result s.ensures)) (rw (its_frame m s.result s.ensures) at c.put_frame.ensures) in
-    record { answer = d.0; output = d.1 }
+    let parts = then (then (then c.put.ensures.stored c.put_stuffed.ensures.stored) c.put_stuffed-2.ensures.stored) c.put-2.ensures.stored in
+    let d = done c.args.message.now (grind (arith, nat_tests)) (omega arith) (omega arith) c.sequence_bytes-sequence.ensures parts in
+    let left = d.1 in
+    record { answer = d.0; output = search rules }
