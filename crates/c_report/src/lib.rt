@@ -7,7 +7,7 @@ ghost use Rattle.c_report.specs.Flat.{position_from, altitude_from, track_number
 use message_types::{CallSign, Climb, Position, Report, Speed, TrackKind};
 use units::PressureSteps;
 
-// C's struct: a mark stands in front of its field, and a kind is its number.
+// The C interface: a mark stands beside its field, and a kind is its number, since C has no enum with values.
 #[repr(C)]
 #[derive(Clone, Copy, Default)]
 pub struct FlatReport {
@@ -35,7 +35,7 @@ pub struct FlatReport {
     pub spare: u8,
 }
 
-// C's struct: the number, and the report, all zero with a refusal.
+// The C interface: the number, and the report, all zero with a refusal.
 #[repr(C)]
 #[derive(Clone, Copy)]
 pub struct FlatReportRead {
@@ -78,6 +78,7 @@ pub fn track_number(kind: TrackKind) -> u8
     kind as u8
 }
 
+// A match and no TryFrom: `track_from` cannot fail, and nothing would call a conversion that can.
 #[tactic(auto, unfolding(crate::specs::Flat::track_from))]
 pub fn track_from(number: u8) -> TrackKind
     ensures { result ≡ track_from number }

@@ -21,61 +21,46 @@ fn print_answer(rt: &impl Print, at: usize, answer: Answer, message: &[u8; 436])
     }
 }
 
-// A piece of the recording, whose bytes start at `start` there.
-fn feed_piece(
-    rt: &impl Print,
+// What is kept from one piece of a recording to the next, and lent to collecting.
+#[derive(Drop)]
+struct Stream {
     control: Control,
-    room: &mut [u8; 438],
-    message: &mut [u8; 436],
-    piece: &[u8],
-    start: usize,
-) -> Control
-    requires { start + length piece.now ≤ 65536 }
-{
-    let mut c = control;
-    let mut at = 0;
-    while at < piece.len() {
-        let fed = collecting::feed(c, room, message, &piece[at..]);
-        c = fed.control;
-        at += fed.taken;
-        let answer = fed.answer;
-        print_answer(rt, start + at - 1, answer, message);
-    }
-    c
+    room: [u8; 438],
+    message: [u8; 436],
 }
 
-fn print_heading(rt: &impl Print, size: usize) {
-    let _ = println!(rt; "in pieces of {size}");
+impl Stream {
+    fn start() -> Stream {
+        Stream {
+            control: Control::fresh(),
+            room: [0; 438],
+            message: [0; 436],
+        }
+    }
+
+    // A piece of the recording, whose bytes start at `start` there.
+    fn feed(&mut self, rt: &impl Print, start: usize, piece: &[u8])
+        requires { start + length piece.now ≤ 65536 }
+    {
+        let mut rest = piece;
+        while !rest.is_empty() {
+            let fed = collecting::feed(self.control, &mut self.room, &mut self.message, rest);
+            self.control = fed.control;
+            rest = &rest[fed.taken..];
+            let at = start + (piece.len() - rest.len()) - 1;
+            print_answer(rt, at, fed.answer, &self.message);
+        }
+    }
 }
 
 fn feed_in_pieces(rt: &impl Print, recording: &[u8], size: usize)
     requires { (1 ≤ size) × (length recording.now ≤ 65536) }
 {
-    print_heading(rt, size);
-    let mut room = [0u8; 438];
-    let mut message = [0u8; 436];
-    let mut control = Control::fresh();
-    let mut at = 0;
-    while at < recording.len() {
-        let end = end_of(at, size, recording.len());
-        control = feed_piece(
-            rt,
-            control,
-            &mut room,
-            &mut message,
-            &recording[at..end],
-            at,
-        );
-        at = end;
+    let _ = println!(rt; "in pieces of {size}");
+    let mut stream = Stream::start();
+    for (k, piece) in recording.chunks(size).enumerate() {
+        stream.feed(rt, k * size, piece);
     }
-}
-
-// Where a piece ends that starts at `at`.
-fn end_of(at: usize, size: usize, end: usize) -> usize
-    requires { (at + 1 ≤ end) × (1 ≤ size) }
-    ensures { (at + 1 ≤ result) × (result ≤ end) }
-{
-    if end - at < size { end } else { at + size }
 }
 
 fn main(rt: HostRuntime) {

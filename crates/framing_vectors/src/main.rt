@@ -4,15 +4,14 @@
 // beside this program come from rust/reference. A write that fails is passed over.
 #![tactic(auto)]
 
-ghost use Rattle.std.specs.Prelude.{◌+◌, ◌≤◌, ◌<◌, length};
+ghost use Rattle.std.specs.Prelude.{◌≤◌};
+
+use printing::{Hex, Records};
 
 fn print_answer(rt: &impl Print, number: u8, size: usize, out: &[u8]) {
-    let _ = print!(rt; "{number} {size} ");
-    if out.len() == 0 {
-        let _ = print!(rt; "-");
-    }
-    printing::hex_bytes(rt, out, out.len());
-    let _ = println!(rt; "");
+    let bytes = Hex(out);
+    let none = if out.is_empty() { "-" } else { "" };
+    let _ = println!(rt; "{number} {size} {none}{bytes}");
 }
 
 fn frame_message(rt: &impl Print, message: &[u8], out: &mut [u8]) {
@@ -29,37 +28,20 @@ fn frame_in_room(rt: &impl Print, message: &[u8], room: usize)
     frame_message(rt, message, &mut out[..room]);
 }
 
-fn number(high: u8, low: u8) -> usize
-    ensures { result < 65536 }
-{
-    (high as usize) * 256 + (low as usize)
-}
-
-// Answers where the next record starts: the input's end where this one cannot be framed.
-fn frame_record(rt: &(impl Print + Eprint), input: &[u8], at: usize) -> usize
-    requires { at + 4 ≤ length input.now }
-    ensures { (at < result) × (result ≤ length input.now) }
-{
-    let size = number(input[at], input[at + 1]);
-    let room = number(input[at + 2], input[at + 3]);
-    let start = at + 4;
-    let end = start + size;
-    if input.len() < end {
-        let _ = eprintln!(rt; "a message is cut short");
-        return input.len();
-    }
-    if 1024 < room {
-        let _ = eprintln!(rt; "an output is over 1024 bytes");
-        return input.len();
-    }
-    frame_in_room(rt, &input[start..end], room);
-    end
-}
-
+// Up to a record that cannot be framed.
 fn frame_records(rt: &(impl Print + Eprint), input: &[u8]) {
-    let mut at = 0;
-    while 4 <= input.len() - at {
-        at = frame_record(rt, input, at);
+    for record in (Records::<4, 0> { rest: input }) {
+        let Ok(record) = record else {
+            let _ = eprintln!(rt; "a message is cut short");
+            return;
+        };
+        let [_, _, high, low] = *record.header;
+        let room = usize::from(u16::from_be_bytes([high, low]));
+        if 1024 < room {
+            let _ = eprintln!(rt; "an output is over 1024 bytes");
+            return;
+        }
+        frame_in_room(rt, record.body, room);
     }
 }
 

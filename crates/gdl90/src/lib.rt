@@ -5,18 +5,18 @@ ghost use Rattle.std.specs.Prelude.{◌≡◌, length, Err};
 ghost use Rattle.numbers.specs.Lent.{written};
 ghost use Rattle.fcs.specs.Fcs.{fcs};
 ghost use Rattle.framing.specs.Framing.{framing, framed_output};
-ghost use Rattle.collecting.specs.Stream.{answer_number, message_length, position};
 ghost use Rattle.tallying.specs.Tally.{tallied};
 ghost use Rattle.heartbeat.specs.Heartbeat.{heartbeat_read};
 ghost use Rattle.initialization.specs.Initialization.{initialization_read};
+ghost use Rattle.c_report.specs.Answers.{report_answer};
 ghost use Rattle.report.specs.Reading.{report_read, ownship_read, traffic_read};
-ghost use Rattle.gdl90.specs.Messages.{report_answer, kind_answer, uplink_answer, height_answer, geometric_answer, write_answer};
+ghost use Rattle.gdl90.specs.Messages.{kind_answer, uplink_answer, height_answer, geometric_answer, write_answer};
 ghost use Rattle.gdl90.specs.Messages.{WritesHeartbeat, WritesInitialization, WritesUplink, WritesHeight, WritesReport, WritesOwnship, WritesGeometric, WritesTraffic};
 ghost use Rattle.messages.specs.Message.{kind_number};
 ghost use Rattle.information_frames.specs.Walk.{payload_frames};
 ghost use Rattle.information_frames.specs.Answers.{frame_list, nth_frame};
 ghost use Rattle.information_frames.specs.Adding.{adding, added_number, payload_after};
-ghost use Rattle.gdl90.specs.Collecting.{frame_answer, phase_number, phase_of, control_of, feed_answer, feeding, Feeds, answer_in, recording_answer, ReadsRecording};
+ghost use Rattle.gdl90.specs.Collecting.{frame_answer, control_of, feed_answer, feeding, Feeds, answer_in, recording_answer, ReadsRecording};
 ghost use Rattle.units.specs.Degrees.{in_degrees};
 ghost use Rattle.units.specs.Feet.{pressure_feet, geometric_feet, terrain_feet};
 ghost use Rattle.gdl90.specs.Payload.{payload_list_answer, payload_nth_answer};
@@ -34,7 +34,6 @@ use message_types::{
     Heartbeat, HeartbeatRead, Initialization, InitializationRead, Ownship, Traffic,
 };
 use messages::Kind;
-use recording::Recorded;
 use refusals::Refusal;
 use tallying::Tally;
 use units::{GeometricSteps, PressureSteps, TerrainFeet};
@@ -149,21 +148,19 @@ fn answer_in(fed: FeedAnswer) -> Answer
 fn feed_answer(fed: Fed) -> FeedAnswer
     ensures { result ≡ feed_answer fed }
 {
-    let control = fed.control;
-    let phase = control.phase;
     let control = FeedControl {
-        count: control.count,
-        stuffed: control.stuffed,
-        phase: phase_number(phase),
+        count: fed.control.count,
+        stuffed: fed.control.stuffed,
+        phase: fed.control.phase as u8,
     };
     let answer = fed.answer;
     FeedAnswer {
         control,
         taken: fed.taken,
         answered: collecting::is_answered(answer),
-        number: answer_number(answer),
-        length: message_length(answer),
-        position: position(answer),
+        number: collecting::answer_number(answer),
+        length: collecting::message_length(answer),
+        position: collecting::position(answer),
     }
 }
 
@@ -171,77 +168,17 @@ fn feed_answer(fed: Fed) -> FeedAnswer
 fn control_of(control: FeedControl) -> Control
     ensures { result ≡ control_of control }
 {
-    if control.phase <= 4 {
+    let Ok(phase) = Phase::try_from(control.phase) else {
         return Control {
-            count: control.count,
-            stuffed: control.stuffed,
-            phase: phase_of(control.phase),
+            count: 439,
+            stuffed: 0,
+            phase: Phase::LeadIn,
         };
-    }
+    };
     Control {
-        count: 439,
-        stuffed: 0,
-        phase: Phase::LeadIn,
-    }
-}
-
-fn phase_of(n: u8) -> Phase
-    ensures { result ≡ phase_of n }
-{
-    if n == 0 {
-        return Phase::LeadIn;
-    }
-    if n == 1 {
-        return Phase::Open;
-    }
-    if n == 2 {
-        return Phase::Escape;
-    }
-    if n == 3 {
-        return Phase::BadEscape;
-    }
-    Phase::TooLong
-}
-
-fn phase_number(phase: Phase) -> u8
-    ensures { result ≡ phase_number phase }
-{
-    match phase {
-        Phase::LeadIn => 0,
-        Phase::Open => 1,
-        Phase::Escape => 2,
-        Phase::BadEscape => 3,
-        Phase::TooLong => 4,
-    }
-}
-
-fn answer_number(answer: Answer) -> u8
-    ensures { result ≡ answer_number answer }
-{
-    match answer {
-        Answer::None => 0,
-        Answer::Accepted(_) => 0,
-        Answer::Refused(n, _) => n,
-    }
-}
-
-fn message_length(answer: Answer) -> usize
-    ensures { result ≡ message_length answer }
-{
-    match answer {
-        Answer::None => 0,
-        Answer::Accepted(k) => k,
-        Answer::Refused(_, _) => 0,
-    }
-}
-
-fn position(answer: Answer) -> usize
-    ensures { result ≡ position answer }
-{
-    match answer {
-        Answer::None => 0,
-        Answer::Accepted(_) => 0,
-        Answer::Refused(_, at) => at,
+        count: control.count,
+        stuffed: control.stuffed,
+        phase,
     }
 }
 
@@ -265,12 +202,15 @@ pub fn gdl90_read_recording(
     recording_answer(recorded)
 }
 
-fn recording_answer(recorded: Recorded) -> RecordingAnswer
+fn recording_answer(recorded: Result<usize, Refusal>) -> RecordingAnswer
     ensures { result ≡ recording_answer recorded }
 {
     match recorded {
-        Recorded::Entries(entries) => RecordingAnswer { number: 0, entries },
-        Recorded::Refused(number) => RecordingAnswer { number, entries: 0 },
+        Ok(entries) => RecordingAnswer { number: 0, entries },
+        Err(refusal) => RecordingAnswer {
+            number: refusal.number(),
+            entries: 0,
+        },
     }
 }
 

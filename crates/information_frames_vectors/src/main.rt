@@ -11,193 +11,118 @@
 // fails is passed over.
 #![tactic(auto)]
 
-ghost use Rattle.std.specs.Prelude.{◌+◌, ◌≤◌, ◌<◌, length};
+use information_frames::{Frame, FrameList};
+use printing::{Hex, Records};
+use refusals::Refusal;
 
-use generic_text::TextReading;
-use information_frames::{Added, Found, FrameList};
-
-fn print(rt: &impl Print, text: &str) {
-    let _ = rt.print(text);
+// The number, behind a blank.
+fn print_refusal(rt: &impl Print, refusal: Refusal) {
+    let _ = print!(rt; " {}", refusal.number());
 }
 
-// A blank, and then the number.
-fn print_number(rt: &impl Print, n: usize) {
-    let _ = print!(rt; " {n}");
-}
-
-// A blank, and then four hexadecimal digits.
-fn print_check_sequence(rt: &impl Print, sequence: u16) {
-    let _ = print!(rt; " {sequence:04x}");
-}
-
-fn print_frame(rt: &impl Print, found: Found, data: &[u8]) {
+fn print_frame(rt: &impl Print, found: Result<Frame, Refusal>, data: &[u8]) {
     match found {
-        Found::Frame(f) => {
-            print_number(rt, f.kind as usize);
-            print_number(rt, f.reserved as usize);
-            print_number(rt, f.length);
-            print(rt, " ");
-            printing::hex_bytes(rt, data, 2);
+        Ok(f) => {
+            let product = Hex(&data[..data.len().min(2)]);
+            let _ = print!(rt; " {} {} {} {product}", f.kind, f.reserved, f.length);
         }
-        Found::Refused(k) => print_number(rt, k as usize),
+        Err(refusal) => print_refusal(rt, refusal),
     }
 }
 
-fn print_frames(rt: &impl Print, payload: &[u8], count: usize) {
-    let mut n = 0;
-    while n < count {
+// A list, and what each of its numbers and the one behind the last is answered.
+fn print_list<F: Fn(usize)>(rt: &impl Print, list: Result<FrameList, Refusal>, print_nth: F)
+    requires { F.IsAlwaysCallable print_nth }
+{
+    let _ = print!(rt; "list");
+    match list {
+        Ok(FrameList { count, end }) => {
+            let _ = print!(rt; " 0 {count} {end}");
+            for n in 0..=count {
+                print_nth(n);
+            }
+        }
+        Err(refusal) => print_refusal(rt, refusal),
+    }
+    let _ = println!(rt; "");
+}
+
+fn print_payload(rt: &impl Print, payload: &[u8]) {
+    print_list(rt, information_frames::list(payload), |n| {
         print_frame(
             rt,
             information_frames::nth(payload, n),
             information_frames::data(payload, n),
+        )
+    });
+}
+
+// The same of a message, by its own functions, and the texts.
+fn print_message(rt: &impl Print, message: &[u8]) {
+    print_list(rt, uplink_frames::list(message), |n| {
+        print_frame(
+            rt,
+            uplink_frames::nth(message, n),
+            uplink_frames::data(message, n),
         );
-        n += 1;
-    }
-    print_frame(
-        rt,
-        information_frames::nth(payload, count),
-        information_frames::data(payload, count),
-    );
-}
-
-fn print_list(rt: &impl Print, payload: &[u8]) {
-    print(rt, "list");
-    match information_frames::list(payload) {
-        FrameList::Frames { count, end } => {
-            print_counts(rt, count, end);
-            print_frames(rt, payload, count);
-        }
-        FrameList::Refused(k) => print_number(rt, k as usize),
-    }
-    print(rt, "\n");
-}
-
-fn print_counts(rt: &impl Print, count: usize, end: usize) {
-    print_number(rt, 0);
-    print_number(rt, count);
-    print_number(rt, end);
+        print_text(rt, message, n);
+    });
 }
 
 fn print_text(rt: &impl Print, message: &[u8], n: usize) {
     let mut out = [0u8; 1024];
     match uplink_text::read(message, n, &mut out) {
-        TextReading::Text {
-            hours,
-            minutes,
-            padding,
-            length,
-        } => {
-            print_number(rt, 0);
-            print_number(rt, hours as usize);
-            print_number(rt, minutes as usize);
-            print_number(rt, padding as usize);
-            print_number(rt, length);
-            print_check_sequence(rt, fcs::check_sequence(&out));
+        Ok(text) => {
+            let sequence = fcs::check_sequence(&out);
+            let _ = print!(rt; " 0 {} {} {}", text.hours, text.minutes, text.padding);
+            let _ = print!(rt; " {} {sequence:04x}", text.length);
         }
-        TextReading::Refused(k) => print_number(rt, k as usize),
+        Err(refusal) => print_refusal(rt, refusal),
     }
-}
-
-fn print_message_frame(rt: &impl Print, message: &[u8], n: usize) {
-    print_frame(
-        rt,
-        uplink_frames::nth(message, n),
-        uplink_frames::data(message, n),
-    );
-    print_text(rt, message, n);
-}
-
-// The same of a message, by its own functions, and the texts.
-fn print_message_frames(rt: &impl Print, message: &[u8], count: usize) {
-    let mut n = 0;
-    while n < count {
-        print_message_frame(rt, message, n);
-        n += 1;
-    }
-    print_message_frame(rt, message, count);
-}
-
-fn print_message_list(rt: &impl Print, message: &[u8]) {
-    print(rt, "list");
-    match uplink_frames::list(message) {
-        FrameList::Frames { count, end } => {
-            print_counts(rt, count, end);
-            print_message_frames(rt, message, count);
-        }
-        FrameList::Refused(k) => print_number(rt, k as usize),
-    }
-    print(rt, "\n");
 }
 
 fn print_added(rt: &impl Print, payload: &mut [u8; 432], kind: u8, bytes: &[u8]) {
-    print(rt, "add");
-    match information_frames::add(payload, kind, bytes) {
-        Added::Done => print_number(rt, 0),
-        Added::Refused(k) => print_number(rt, k as usize),
-    }
-    print_check_sequence(rt, fcs::check_sequence(payload));
-    print(rt, "\n");
-}
-
-fn byte_or_zero(bytes: &[u8], i: usize) -> u8 {
-    if i < bytes.len() { bytes[i] } else { 0 }
+    let number = match information_frames::add(payload, kind, bytes) {
+        Ok(()) => 0,
+        Err(refusal) => refusal.number(),
+    };
+    let sequence = fcs::check_sequence(payload);
+    let _ = println!(rt; "add {number} {sequence:04x}");
 }
 
 // Frames are added to the first 432 of these bytes, with zeros behind them where they are fewer.
-fn keep(bytes: &[u8], payload: &mut [u8; 432]) {
-    let mut i = 0;
-    while i < 432 {
-        payload[i] = byte_or_zero(bytes, i);
-        i += 1;
-    }
+fn kept(bytes: &[u8]) -> [u8; 432] {
+    let mut payload = [0u8; 432];
+    let n = bytes.len().min(432);
+    payload[..n].copy_from_slice(&bytes[..n]);
+    payload
 }
 
 fn answer(rt: &impl Print, letter: u8, part: &[u8], payload: &mut [u8; 432]) {
-    if letter == b'A' && 1 <= part.len() {
-        print_added(rt, payload, part[0], &part[1..]);
-    } else if letter == b'L' {
-        print_list(rt, payload);
-    } else if letter == b'M' {
-        print_message_list(rt, part);
-        keep(uplink::payload(part), payload);
-    } else {
-        print_list(rt, part);
-        keep(part, payload);
+    match (letter, part) {
+        (b'A', [kind, bytes @ ..]) => print_added(rt, payload, *kind, bytes),
+        (b'L', _) => print_payload(rt, payload),
+        (b'M', message) => {
+            print_message(rt, message);
+            *payload = kept(uplink::payload(message));
+        }
+        (_, given) => {
+            print_payload(rt, given);
+            *payload = kept(given);
+        }
     }
 }
 
-fn number(high: u8, low: u8) -> usize
-    ensures { result < 65536 }
-{
-    (high as usize) * 256 + (low as usize)
-}
-
-// Answers where the next record starts: the input's end where this one is cut short.
-fn answer_record(
-    rt: &(impl Print + Eprint),
-    input: &[u8],
-    at: usize,
-    payload: &mut [u8; 432],
-) -> usize
-    requires { at + 3 ≤ length input.now }
-    ensures { (at < result) × (result ≤ length input.now) }
-{
-    let size = number(input[at + 1], input[at + 2]);
-    let start = at + 3;
-    let end = start + size;
-    if input.len() < end {
-        let _ = eprintln!(rt; "a record is cut short");
-        return input.len();
-    }
-    answer(rt, input[at], &input[start..end], payload);
-    end
-}
-
+// Up to a record that is cut short.
 fn answer_records(rt: &(impl Print + Eprint), input: &[u8]) {
     let mut payload = [0u8; 432];
-    let mut at = 0;
-    while 3 <= input.len() - at {
-        at = answer_record(rt, input, at, &mut payload);
+    for record in (Records::<3, 1> { rest: input }) {
+        let Ok(record) = record else {
+            let _ = eprintln!(rt; "a record is cut short");
+            return;
+        };
+        let [letter, _, _] = *record.header;
+        answer(rt, letter, record.body, &mut payload);
     }
 }
 

@@ -1,13 +1,13 @@
 -- Lines, field by field.
 -- Assumes nothing.
-use mathlib.Core.Path.{◌≡◌, refl}
+use mathlib.Core.Path.{◌≡◌, refl, sym}
 use mathlib.Core.List.{List, [], ◌∷◌, ◌++◌, append_assoc}
 use Prim.Native.Nat.{ℕ, ◌+◌, ◌≤◌}
 use native.Mathlib.Numerals.{add-one}
-use lib.ListN.{length, take, get_or, set}
+use lib.ListN.{length, take, drop, get_or, set}
 use lib.Seq.{get_or-take, length-take-le}
-use Rattle.numbers.specs.Lent.{Stored}
-use Rattle.numbers.proofs.Storing.{then}
+use Rattle.numbers.specs.Lent.{written, Stored}
+use Rattle.numbers.proofs.Storing.{then, from_first}
 use Rattle.collecting.specs.declared.Answer.{Answer}
 use Rattle.collecting.specs.declared.Answer.TheVariants.{Accepted, Refused}
 use Rattle.collecting.specs.Stream.{reply}
@@ -35,16 +35,16 @@ pub dash_then : (out : List ℕ) (at x : ℕ) → Stored out at (field dash ++ (
 unfolding field
 dash_then out at x = record { ends = refl; leaves = rw add-one }
 
-word : (out : List ℕ) → Stored out 0 (101 ∷ 110 ∷ 100 ∷ 32 ∷ []) 4 (set (set (set (set out 0 101) 1 110) 2 100) 3 32)
-word out = record { ends = refl; leaves = refl }
-
--- the last line, from its fields
-pub ending_stored : {mid left : List ℕ} {next last : ℕ} (out : List ℕ) (lead trail : ℕ)
-    → Stored (set (set (set (set out 0 101) 1 110) 2 100) 3 32) 4 (field (digits lead) ++ (32 ∷ [])) next mid
+-- the last line, from its word and its fields
+pub ending_stored : {out mid left : List ℕ} {next last : ℕ} (word : List ℕ) (lead trail : ℕ)
+    → word ≡ 101 ∷ 110 ∷ 100 ∷ 32 ∷ [] → 4 ≤ length out
+    → Stored (word ++ drop 4 out) 4 (field (digits lead) ++ (32 ∷ [])) next mid
     → Stored mid next (field (digits trail) ++ (10 ∷ [])) last left
     → Stored out 0 (last_line lead trail) last left
-unfolding last_line
-ending_stored out lead trail p q = then (word out) (field_then (digits lead) (digits trail) [] p (last_field (digits trail) q))
+unfolding last_line written
+ending_stored {out} word lead trail e h p q =
+    let start : Stored out 0 word 4 (word ++ drop 4 out) = rw e (record { ends = refl; leaves = sym (from_first (101 ∷ 110 ∷ 100 ∷ 32 ∷ []) out h) }) in
+    rw e at (then start (field_then (digits lead) (digits trail) [] p (last_field (digits trail) q)))
 
 pub ranged : (a : Answer) (k : ℕ) → a ≡ Accepted k → Ranged a → (1 ≤ k) × (k ≤ 436)
 unfolding Ranged

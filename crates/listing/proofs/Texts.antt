@@ -4,7 +4,7 @@ use mathlib.Core.Path.{◌≡◌, refl, ap, ◌∙◌}
 use mathlib.Core.Bool.{Bool, true, false}
 use mathlib.Core.List.{List, [], ◌∷◌, ◌++◌}
 use Prim.Native.Nat.{ℕ, zero, suc, ◌+◌, ◌*◌, ◌/◌, ◌%◌, ◌^◌, ◌≤◌, ◌<◌}
-use native.Mathlib.Nat.{pow-suc, le-div_iff_mul-le, div-lt_iff_lt-mul, div-div-eq-div-mul}
+use native.Mathlib.Nat.{pow-suc, one-le-pow}
 use native.Mathlib.Omega.{arith}
 use lib.Dec.{ltb}
 use lib.ListN.{length, set, length-append}
@@ -58,13 +58,13 @@ length_some n = go (ltb n 10) refl
     go true e = omega (arith, length_small n (ltb-true n 10 e))
     go false e = omega (arith, length_large n (ltb-false n 10 e))
 
--- the digits of n down to that of a unit
-module _ (n unit : ℕ) (some : 0 < unit) where
-  pub unit_more : unit ≤ n / 10 → length (decimal (n / unit)) ≡ length (decimal (n / (unit * 10))) + 1
-  unit_more h = length_large (n / unit) ((le-div_iff_mul-le some).1 (omega arith)) ∙ ap (λ (k : ℕ). length (decimal k) + 1) (div-div-eq-div-mul n unit 10)
-
-  pub unit_last : n / 10 < unit → length (decimal (n / unit)) ≡ 1
-  unit_last h = length_small (n / unit) ((div-lt_iff_lt-mul some).1 (omega arith))
+-- a number from ten to the k on, and below the next power, has k + 1 digits
+pub length_of : (k n : ℕ) → 10 ^ k ≤ n → n < 10 * 10 ^ k → length (decimal n) ≡ k + 1
+length_of zero n low high = length_small n (omega arith)
+length_of (suc k) n low high =
+    let p = pow-suc 10 k in
+    let some = one-le-pow k 10 (omega arith) in
+    omega (arith, length_large n (omega arith), length_of k (n / 10) (omega arith) (omega arith))
 
 -- one byte stored
 pub one : (out : List ℕ) (at x : ℕ) → Stored out at (x ∷ []) (at + 1) (set out at x)

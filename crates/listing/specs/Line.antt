@@ -1,6 +1,6 @@
 -- Numbers and lines as text (RULES 'Listing').
 -- Assumes nothing.
-use Rattle.std.specs.Prelude.{ℕ, zero, suc, ◌+◌, ◌/◌, ◌%◌, Bool, true, false, List, [], ◌∷◌, ◌++◌, ltb}
+use Rattle.std.specs.Prelude.{ℕ, zero, suc, ◌+◌, ◌/◌, ◌%◌, Bool, true, false, List, [], ◌∷◌, ◌++◌, ltb, ◌<◌, Option, Some, None}
 
 -- n in decimal, in at most k digits. Whether one digit is enough is an argument, so that no more is computed than is needed
 unfoldable pub decimal_by : ℕ → ℕ → Bool → List ℕ
@@ -26,7 +26,12 @@ line [] = 10 ∷ []
 line (f ∷ []) = field f ++ (10 ∷ [])
 line (f ∷ g ∷ fs) = field f ++ (32 ∷ line (g ∷ fs))
 
--- a number, or a dash in its place
-abbrev pub shown_as : Bool → ℕ → Field
-shown_as true n = digits n
-shown_as false n = dash
+-- a number, or a dash where there is none
+abbrev pub shown : Option ℕ → Field
+shown (Some n) = digits n
+shown None = dash
+
+-- a number, if there is one, has at most ten digits
+abbrev pub Short : Option ℕ → Type 0
+Short (Some n) = n < 10000000000
+Short None = Unit {0}

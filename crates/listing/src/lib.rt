@@ -1,12 +1,12 @@
 // The listing of a byte stream as text, a stretch of input at a time (RULES 'Listing').
 #![tactic(auto)]
 
-ghost use Rattle.std.specs.Prelude.{◌≡◌, cond, not, ◌++◌, ◌∷◌, [], ◌+◌, ◌-◌, ◌≤◌, ◌<◌, min, length, take};
+ghost use Rattle.std.specs.Prelude.{◌≡◌, ◌++◌, ◌∷◌, [], ◌+◌, ◌-◌, ◌≤◌, ◌<◌, min, length, take};
 ghost use Rattle.numbers.specs.Lent.{Stored};
 ghost use Rattle.collecting.specs.Stream.{reply, unflagged};
 ghost use Rattle.collecting.specs.Claims.{Ranged};
 ghost use Rattle.messages.specs.Message.{read_message, reading_number};
-ghost use Rattle.listing.specs.Line.{decimal, field, shown_as};
+ghost use Rattle.listing.specs.Line.{decimal, field, shown, Short};
 ghost use Rattle.listing.specs.Listing.{limit, longest, state, answer_line, reply_line, text_of, advanced, reached, header, ending, has_flag, Sane, Processes};
 ghost use Rattle.listing.specs.Listing.{opening, start, steady, counted, passed, holds, settled};
 
@@ -42,26 +42,31 @@ pub struct Processed {
     pub written: usize,
 }
 
+// A lister that bytes within the limit lead to.
+#[derive(Clone, Copy)]
+struct Reached {
+    lister: Lister,
+    ghost sane: { Sane lister },
+}
+
 #[derive(Clone, Copy)]
 struct Stretch {
-    lister: Lister,
+    l: Reached,
     taken: usize,
 }
 
 #[derive(Clone, Copy)]
 struct Advanced {
-    lister: Lister,
+    l: Reached,
     end: usize,
 }
 
 // The header line.
+#[tactic(auto, unfolding(crate::specs::Listing::header))]
 pub fn heading() -> [u8; 20]
     ensures { result ≡ header }
 {
-    [
-        b'n', b' ', b'a', b't', b' ', b'a', b'n', b's', b' ', b'i', b'd', b' ', b'l', b'e', b'n',
-        b' ', b'p', b'o', b's', b'\n',
-    ]
+    *b"n at ans id len pos\n"
 }
 
 // Before the first byte.
@@ -95,25 +100,25 @@ pub fn process(lister: Lister, room: &mut [u8; 438], bytes: &[u8], out: &mut [u8
     let mut message = [0u8; 436];
     let mut i = 0;
     let mut at = 0;
-    let end = up_to_limit(l.taken, bytes.len());
+    let end = up_to_limit(l.lister.taken, bytes.len());
     while LONGEST <= out.len() - at {
         let p = pass(l, room, &bytes[i..end]);
-        l = p.lister;
+        l = p.l;
         i += p.taken;
         if end <= i {
             return Processed {
-                lister: l,
+                lister: l.lister,
                 taken: i,
                 written: at,
             };
         }
         let a = advance(l, room, &mut message, bytes[i], out, at);
-        l = a.lister;
+        l = a.l;
         at = a.end;
         i += 1;
     }
     Processed {
-        lister: l,
+        lister: l.lister,
         taken: i,
         written: at,
     }
@@ -124,11 +129,7 @@ fn up_to_limit(taken: u64, n: usize) -> usize
     requires { taken ≤ limit }
     ensures { result ≡ min n (limit - taken) }
 {
-    let left = LIMIT - taken;
-    if left < n as u64 {
-        return left as usize;
-    }
-    n
+    (LIMIT - taken).min(n as u64) as usize
 }
 
 // Writes the last line to the front of out, and answers its length.
@@ -136,43 +137,42 @@ pub fn finish(lister: Lister, out: &mut [u8; 26]) -> usize
     ensures stored { Stored out.old 0 (ending (steady lister)) result out.new }
     ensures upper_bound { result ≤ length out.new }
 {
-    let l = steady(lister);
+    let l = steady(lister).lister;
     let lead = l.lead;
     let trail = l.taken - l.after;
-    out[0] = b'e';
-    out[1] = b'n';
-    out[2] = b'd';
-    out[3] = b' ';
-    let p = put_field(out, 4, true, lead, b' ');
-    put_field(out, p, true, trail, b'\n')
+    out[..4].copy_from_slice(b"end ");
+    let p = put_field(out, 4, Some(lead), b' ');
+    put_field(out, p, Some(trail), b'\n')
 }
 
 // Whether a flag has come.
 pub fn has_flag(lister: Lister) -> bool
     ensures { result ≡ has_flag (steady lister) }
 {
-    let l = steady(lister);
+    let l = steady(lister).lister;
     l.lead < l.taken
 }
 
 // A lister that no bytes within the limit lead to is taken as that at the start.
-fn steady(lister: Lister) -> Lister
-    ensures { (result ≡ steady lister) × Sane result }
+fn steady(lister: Lister) -> Reached
+    ensures { result.lister ≡ steady lister }
 {
     if holds(lister) {
-        return lister;
+        return Reached { lister };
     }
-    opening()
+    Reached { lister: opening() }
 }
 
 // The same, with collecting's room.
-fn settled(lister: Lister, room: &mut [u8; 438]) -> Lister
-    ensures { (state result room.new ≡ settled (state lister room.old)) × Sane result }
+fn settled(lister: Lister, room: &mut [u8; 438]) -> Reached
+    ensures { state result.lister room.new ≡ settled (state lister room.old) }
 {
     if holds(lister) {
-        return lister;
+        return Reached { lister };
     }
-    start(room)
+    Reached {
+        lister: start(room),
+    }
 }
 
 fn holds(l: Lister) -> bool
@@ -182,92 +182,96 @@ fn holds(l: Lister) -> bool
 }
 
 // Takes the bytes before the first flag, or all where there is none: they have no line.
-fn pass(l: Lister, room: &mut [u8; 438], bytes: &[u8]) -> Stretch
-    requires { Sane l × (l.taken + length bytes.now ≤ limit) }
+fn pass(l: Reached, room: &mut [u8; 438], bytes: &[u8]) -> Stretch
+    requires { l.lister.taken + length bytes.now ≤ limit }
     ensures taken_value { result.taken ≡ unflagged bytes.now }
-    ensures room_after { state result.lister room.new ≡ reached (state l room.old) (take result.taken bytes.now) }
+    ensures room_after { state result.l.lister room.new ≡ reached (state l.lister room.old) (take result.taken bytes.now) }
 {
-    let control = l.control;
-    let filled = collecting::fill(control, room, bytes);
+    let filled = collecting::fill(l.lister.control, room, bytes);
     let taken = filled.taken;
-    let control = filled.control;
-    let lister = passed(l, taken as u64, control);
-    Stretch { lister, taken }
+    let l = passed(l, taken as u64, filled.control);
+    Stretch { l, taken }
 }
 
 // The lister after n bytes that are no flags, with collecting's control after them.
-fn passed(l: Lister, n: u64, control: Control) -> Lister
-    requires { l.taken + n ≤ limit }
-    ensures { result ≡ passed l n control }
+#[tactic(auto, unfolding(crate::specs::Listing::passed))]
+fn passed(l: Reached, n: u64, control: Control) -> Reached
+    requires { l.lister.taken + n ≤ limit }
+    ensures { result.lister ≡ passed l.lister n control }
 {
+    let l = l.lister;
     let taken = l.taken + n;
     // no flag has come so far; without a byte nothing moves
     let lead_in = (0 < n) & (l.lead == l.taken);
-    Lister {
+    let lister = Lister {
         control,
         taken,
         lines: l.lines,
-        lead: pick(lead_in, taken, l.lead),
-        after: pick(lead_in, taken, l.after),
-    }
+        lead: if lead_in { taken } else { l.lead },
+        after: if lead_in { taken } else { l.after },
+    };
+    Reached { lister }
 }
 
 // Takes a byte, and writes its line from `at` on.
 fn advance(
-    l: Lister,
+    l: Reached,
     room: &mut [u8; 438],
     message: &mut [u8; 436],
     byte: u8,
     out: &mut [u8],
     at: usize,
 ) -> Advanced
-    requires { Sane l × (l.taken < limit) × (at + longest ≤ length out.old) }
-    ensures room_after { state result.lister room.new ≡ advanced (state l room.old) byte }
-    ensures stored { Stored out.old at (text_of (state l room.old) byte) result.end out.new }
+    requires { (l.lister.taken < limit) × (at + longest ≤ length out.old) }
+    ensures room_after { state result.l.lister room.new ≡ advanced (state l.lister room.old) byte }
+    ensures stored { Stored out.old at (text_of (state l.lister room.old) byte) result.end out.new }
     ensures end_bound { result.end ≤ at + longest }
 {
-    let control = l.control;
-    let stepped = collecting::step(control, room, message, byte);
+    let stepped = collecting::step(l.lister.control, room, message, byte);
     let control = stepped.control;
     let answer = stepped.answer;
-    let lister = counted(l, byte, control, collecting::is_answered(answer));
+    let after = counted(l, byte, control, collecting::is_answered(answer));
     let end = put_reply(out, at, l, answer, message);
-    Advanced { lister, end }
+    Advanced { l: after, end }
 }
 
 // The lister after a byte, with collecting's control after it and whether it was answered.
-fn counted(l: Lister, byte: u8, control: Control, answered: bool) -> Lister
-    requires { Sane l × (l.taken < limit) }
-    ensures { result ≡ counted l byte control answered }
+#[tactic(auto, unfolding(crate::specs::Listing::counted))]
+fn counted(l: Reached, byte: u8, control: Control, answered: bool) -> Reached
+    requires { l.lister.taken < limit }
+    ensures { result.lister ≡ counted l.lister byte control answered }
 {
+    let l = l.lister;
     let taken = l.taken + 1;
-    Lister {
+    // no flag has come so far
+    let lead_in = l.lead == l.taken;
+    let is_flag = byte == 0x7E;
+    let lister = Lister {
         control,
         taken,
-        lines: pick(answered, l.lines + 1, l.lines),
-        lead: pick(byte == 0x7E, l.lead, pick(l.lead == l.taken, taken, l.lead)),
-        after: pick(byte == 0x7E, taken, pick(l.lead == l.taken, taken, l.after)),
-    }
-}
-
-fn pick(test: bool, yes: u64, no: u64) -> u64
-    ensures { result ≡ cond test yes no }
-{
-    if test { yes } else { no }
+        lines: if answered { l.lines + 1 } else { l.lines },
+        lead: if lead_in && !is_flag { taken } else { l.lead },
+        after: if lead_in || is_flag { taken } else { l.after },
+    };
+    Reached { lister }
 }
 
 // Writes the line of an answer, where there is one.
-fn put_reply(out: &mut [u8], at: usize, l: Lister, answer: Answer, message: &[u8; 436]) -> usize
-    requires { Sane l × (l.taken < limit) × Ranged answer × (at + longest ≤ length out.old) }
-    ensures stored { Stored out.old at (reply_line l (reply answer message.now)) result out.new }
+fn put_reply(out: &mut [u8], at: usize, l: Reached, answer: Answer, message: &[u8; 436]) -> usize
+    requires { Ranged answer × (at + longest ≤ length out.old) }
+    ensures stored { Stored out.old at (reply_line l.lister (reply answer message.now)) result out.new }
     ensures upper_bound { result ≤ at + longest }
 {
     match answer {
         Answer::None => at,
         Answer::Accepted(k) => {
-            put_line(out, at, l, read_number(message, k), true, message[0], k, 0)
+            let id = Some(message[0] as u64);
+            let len = Some(k as u64);
+            put_line(out, at, l, read_number(message, k), id, len, None)
         }
-        Answer::Refused(n, position) => put_line(out, at, l, n, false, 0, 0, position),
+        Answer::Refused(n, position) => {
+            put_line(out, at, l, n, None, None, Some(position as u64))
+        }
     }
 }
 
@@ -292,39 +296,42 @@ fn number_of(reading: Reading) -> u8
 fn put_line(
     out: &mut [u8],
     at: usize,
-    l: Lister,
+    l: Reached,
     answer: u8,
-    shown: bool,
-    id: u8,
-    len: usize,
-    position: usize,
+    id: Option<u64>,
+    len: Option<u64>,
+    position: Option<u64>,
 ) -> usize
-    requires { Sane l × (l.taken < limit) × (len ≤ 436) × (position ≤ 878) × (at + longest ≤ length out.old) }
-    ensures stored { Stored out.old at (answer_line l answer (shown_as shown id) (shown_as shown len) (shown_as (not shown) position)) result out.new }
+    requires { (at + longest ≤ length out.old) × (Short id × Short len × Short position) }
+    ensures stored { Stored out.old at (answer_line l.lister answer (shown id) (shown len) (shown position)) result out.new }
     ensures upper_bound { result ≤ at + longest }
 {
-    let p = put_field(out, at, true, l.lines + 1, b' ');
-    let q = put_field(out, p, true, l.after, b' ');
-    let r = put_field(out, q, true, answer as u64, b' ');
-    let s = put_field(out, r, shown, id as u64, b' ');
-    let t = put_field(out, s, shown, len as u64, b' ');
-    put_field(out, t, !shown, position as u64, b'\n')
+    let p = put_field(out, at, Some(l.lister.lines + 1), b' ');
+    let q = put_field(out, p, Some(l.lister.after), b' ');
+    let r = put_field(out, q, Some(answer as u64), b' ');
+    let s = put_field(out, r, id, b' ');
+    let t = put_field(out, s, len, b' ');
+    put_field(out, t, position, b'\n')
 }
 
-// Writes n in decimal, or a dash in its place, and a byte behind it.
-fn put_field(out: &mut [u8], at: usize, shown: bool, n: u64, behind: u8) -> usize
-    requires { (n < 10000000000) × (at + 11 ≤ length out.old) }
-    ensures stored { Stored out.old at (field (shown_as shown n) ++ (behind ∷ [])) result out.new }
+// Writes a number in decimal, or a dash where there is none, and a byte behind it.
+fn put_field(out: &mut [u8], at: usize, number: Option<u64>, behind: u8) -> usize
+    requires { Short number × (at + 11 ≤ length out.old) }
+    ensures stored { Stored out.old at (field (shown number) ++ (behind ∷ [])) result out.new }
     ensures upper_bound { result ≤ at + 11 }
 {
-    if shown {
-        let end = put_decimal(out, at, n);
-        out[end] = behind;
-        return end + 1;
+    match number {
+        Some(n) => {
+            let end = put_decimal(out, at, n);
+            out[end] = behind;
+            end + 1
+        }
+        None => {
+            out[at] = b'-';
+            out[at + 1] = behind;
+            at + 2
+        }
     }
-    out[at] = b'-';
-    out[at + 1] = behind;
-    at + 2
 }
 
 // Writes n in decimal from `at` on, the last digit first, and answers the place behind it.
@@ -344,16 +351,13 @@ fn put_decimal(out: &mut [u8], at: usize, n: u64) -> usize
     end
 }
 
-// How many digits n has. The unit of each is found by a multiplication: a division takes longer.
+// How many digits n has.
+#[tactic(auto, using(crate::proofs::Texts::length_of, crate::proofs::Texts::length_small))]
 fn digit_count(n: u64) -> usize
     ensures { result ≡ length (decimal n) }
 {
-    let tenth = n / 10;
-    let mut count = 1;
-    let mut unit: u64 = 1;
-    while unit <= tenth {
-        count += 1;
-        unit *= 10;
+    match n.checked_ilog10() {
+        Some(k) => k as usize + 1,
+        None => 1,
     }
-    count
 }

@@ -4,261 +4,181 @@
 // rust/reference. A write that fails is passed over.
 #![tactic(auto)]
 
-ghost use Rattle.std.specs.Prelude.{◌+◌, ◌≤◌, ◌<◌, length};
-
 use codec::Written;
 use message_types::{
     Altitude, CallSign, Climb, GeometricAltitude, Heartbeat, Height, Initialization, Merit,
-    Message, Position, Reading, Reception, Report, Speed, TrackKind,
+    Message, Position, Reading, Reception, Report, Speed,
 };
+use printing::{Hex, Records};
+use std::fmt;
 
-fn print(rt: &impl Print, text: &str) {
-    let _ = rt.print(text);
-}
+// A value as the records' text has it: its fields with a blank between them, marks as words, a bit as 0 or 1.
+#[derive(Clone, Copy)]
+struct Text<T>(T);
 
-// Here and below: a blank, and then the field.
-fn print_number(rt: &impl Print, n: u32) {
-    let _ = print!(rt; " {n}");
-}
-
-fn print_byte(rt: &impl Print, n: u8) {
-    print_number(rt, n as u32);
-}
-
-fn print_bit(rt: &impl Print, bit: bool) {
-    if bit {
-        print(rt, " 1");
-    } else {
-        print(rt, " 0");
-    }
-}
-
-fn print_signed(rt: &impl Print, n: i32) {
-    if n < 0 {
-        let magnitude = beyond((!n) as u32);
-        let _ = print!(rt; " -{magnitude}");
-    } else {
-        print_number(rt, n as u32);
-    }
-}
-
-// One more: the magnitude of a negative number is one more than that of its complement.
-fn beyond(n: u32) -> u64 {
-    (n as u64) + 1
-}
-
-fn print_call_sign(rt: &impl Print, sign: CallSign) {
-    print(rt, " ");
-    let list = [
-        sign.0, sign.1, sign.2, sign.3, sign.4, sign.5, sign.6, sign.7,
-    ];
-    printing::hex_bytes(rt, &list, 8);
-}
-
-fn print_heartbeat(rt: &impl Print, heartbeat: Heartbeat) {
-    print(rt, "heartbeat");
-    print_byte(rt, heartbeat.status1);
-    print_byte(rt, heartbeat.status2);
-    print_number(rt, heartbeat.time);
-    print_byte(rt, heartbeat.uplinks);
-    print_byte(rt, heartbeat.reserved);
-    print_number(rt, heartbeat.basic_and_long as u32);
-}
-
-fn print_initialization(rt: &impl Print, initialization: Initialization) {
-    print(rt, "initialization");
-    print_byte(rt, initialization.first);
-    print_byte(rt, initialization.second);
-}
-
-fn print_reception(rt: &impl Print, reception: Reception) {
-    match reception {
-        Reception::Steps(steps) => print_number(rt, steps),
-        Reception::None => print(rt, " none"),
-    }
-}
-
-fn print_height(rt: &impl Print, height: Height) {
-    print(rt, "height");
-    match height {
-        Height::Feet(feet) => print_signed(rt, feet.feet()),
-        Height::None => print(rt, " none"),
-    }
-}
-
-fn print_geometric(rt: &impl Print, geometric: GeometricAltitude) {
-    print(rt, "geometric");
-    let altitude = geometric.altitude;
-    print_signed(rt, altitude.feet());
-    print_bit(rt, geometric.warning);
-    let merit = geometric.merit;
-    print_merit(rt, merit);
-}
-
-fn print_merit(rt: &impl Print, merit: Merit) {
-    match merit {
-        Merit::Metres(metres) => print_number(rt, metres as u32),
-        Merit::Over => print(rt, " over"),
-        Merit::None => print(rt, " none"),
-    }
-}
-
-fn print_report(rt: &impl Print, report: Report) {
-    print_byte(rt, report.alert);
-    print_byte(rt, report.address_type);
-    print_number(rt, report.address);
-    let position = report.position;
-    print_position(rt, position);
-    let altitude = report.altitude;
-    print_altitude(rt, altitude);
-    let track_kind = report.track_kind;
-    print_track_kind(rt, track_kind);
-    print_bit(rt, report.extrapolated);
-    print_bit(rt, report.airborne);
-    print_byte(rt, report.integrity);
-    print_byte(rt, report.accuracy);
-    let speed = report.speed;
-    print_speed(rt, speed);
-    let climb = report.climb;
-    print_climb(rt, climb);
-    print_byte(rt, report.track);
-    print_byte(rt, report.emitter);
-    let call_sign = report.call_sign;
-    print_call_sign(rt, call_sign);
-    print_byte(rt, report.priority);
-    print_byte(rt, report.spare);
-}
-
-fn print_position(rt: &impl Print, position: Position) {
-    match position {
-        Position::At {
-            latitude,
-            longitude,
-        } => {
-            print_signed(rt, latitude);
-            print_signed(rt, longitude);
+impl fmt::Display for Text<Message> {
+    fn fmt<W: fmt::Write>(&self, f: &mut fmt::Formatter<W>) -> fmt::Result {
+        match self.0 {
+            Message::Heartbeat(x) => write!(f, "heartbeat {}", Text(x)),
+            Message::Initialization(x) => write!(f, "initialization {} {}", x.first, x.second),
+            Message::Uplink(x) => write!(f, "uplink {}", Text(x.reception)),
+            Message::Height(x) => write!(f, "height {}", Text(x.height)),
+            Message::Ownship(x) => write!(f, "ownship {}", Text(x.report)),
+            Message::Geometric(x) => write!(f, "geometric {}", Text(x)),
+            Message::Traffic(x) => write!(f, "traffic {}", Text(x.report)),
         }
-        Position::None => print(rt, " none none"),
     }
 }
 
-fn print_altitude(rt: &impl Print, altitude: Altitude) {
-    match altitude {
-        Altitude::Known(steps) => print_signed(rt, steps.feet()),
-        Altitude::None => print(rt, " none"),
+impl fmt::Display for Text<Heartbeat> {
+    fn fmt<W: fmt::Write>(&self, f: &mut fmt::Formatter<W>) -> fmt::Result {
+        let x = self.0;
+        write!(
+            f,
+            "{} {} {} {} {} {}",
+            x.status1, x.status2, x.time, x.uplinks, x.reserved, x.basic_and_long
+        )
     }
 }
 
-fn print_track_kind(rt: &impl Print, kind: TrackKind) {
-    match kind {
-        TrackKind::NotValid => print(rt, " 0"),
-        TrackKind::TrueTrack => print(rt, " 1"),
-        TrackKind::MagneticHeading => print(rt, " 2"),
-        TrackKind::TrueHeading => print(rt, " 3"),
-    }
-}
-
-fn print_speed(rt: &impl Print, speed: Speed) {
-    match speed {
-        Speed::Knots(knots) => print_number(rt, knots as u32),
-        Speed::Over => print(rt, " over"),
-        Speed::None => print(rt, " none"),
-    }
-}
-
-fn print_climb(rt: &impl Print, climb: Climb) {
-    match climb {
-        Climb::Steps(steps) => print_signed(rt, steps),
-        Climb::Above => print(rt, " above"),
-        Climb::Below => print(rt, " below"),
-        Climb::None => print(rt, " none"),
-    }
-}
-
-fn print_message(rt: &impl Print, message: Message) {
-    match message {
-        Message::Heartbeat(x) => print_heartbeat(rt, x),
-        Message::Initialization(x) => print_initialization(rt, x),
-        Message::Uplink(x) => {
-            print(rt, "uplink");
-            let reception = x.reception;
-            print_reception(rt, reception);
+impl fmt::Display for Text<Reception> {
+    fn fmt<W: fmt::Write>(&self, f: &mut fmt::Formatter<W>) -> fmt::Result {
+        match self.0 {
+            Reception::Steps(steps) => write!(f, "{steps}"),
+            Reception::None => write!(f, "none"),
         }
-        Message::Height(x) => {
-            let height = x.height;
-            print_height(rt, height);
+    }
+}
+
+impl fmt::Display for Text<Height> {
+    fn fmt<W: fmt::Write>(&self, f: &mut fmt::Formatter<W>) -> fmt::Result {
+        match self.0 {
+            Height::Feet(feet) => write!(f, "{}", feet.feet()),
+            Height::None => write!(f, "none"),
         }
-        Message::Ownship(x) => {
-            print(rt, "ownship");
-            let report = x.report;
-            print_report(rt, report);
+    }
+}
+
+impl fmt::Display for Text<GeometricAltitude> {
+    fn fmt<W: fmt::Write>(&self, f: &mut fmt::Formatter<W>) -> fmt::Result {
+        let x = self.0;
+        let feet = x.altitude.feet();
+        write!(f, "{feet} {} {}", Text(x.warning), Text(x.merit))
+    }
+}
+
+impl fmt::Display for Text<bool> {
+    fn fmt<W: fmt::Write>(&self, f: &mut fmt::Formatter<W>) -> fmt::Result {
+        write!(f, "{}", u8::from(self.0))
+    }
+}
+
+impl fmt::Display for Text<Merit> {
+    fn fmt<W: fmt::Write>(&self, f: &mut fmt::Formatter<W>) -> fmt::Result {
+        match self.0 {
+            Merit::Metres(metres) => write!(f, "{metres}"),
+            Merit::Over => write!(f, "over"),
+            Merit::None => write!(f, "none"),
         }
-        Message::Geometric(x) => print_geometric(rt, x),
-        Message::Traffic(x) => {
-            print(rt, "traffic");
-            let report = x.report;
-            print_report(rt, report);
+    }
+}
+
+impl fmt::Display for Text<Report> {
+    fn fmt<W: fmt::Write>(&self, f: &mut fmt::Formatter<W>) -> fmt::Result {
+        let x = self.0;
+        write!(f, "{} {} {} ", x.alert, x.address_type, x.address)?;
+        write!(f, "{} {} ", Text(x.position), Text(x.altitude))?;
+        write!(f, "{} {} ", x.track_kind as u8, Text(x.extrapolated))?;
+        write!(f, "{} {} {} ", Text(x.airborne), x.integrity, x.accuracy)?;
+        write!(f, "{} {} ", Text(x.speed), Text(x.climb))?;
+        write!(f, "{} {} {} ", x.track, x.emitter, Text(x.call_sign))?;
+        write!(f, "{} {}", x.priority, x.spare)
+    }
+}
+
+impl fmt::Display for Text<Position> {
+    fn fmt<W: fmt::Write>(&self, f: &mut fmt::Formatter<W>) -> fmt::Result {
+        match self.0 {
+            Position::At {
+                latitude,
+                longitude,
+            } => write!(f, "{latitude} {longitude}"),
+            Position::None => write!(f, "none none"),
         }
+    }
+}
+
+impl fmt::Display for Text<Altitude> {
+    fn fmt<W: fmt::Write>(&self, f: &mut fmt::Formatter<W>) -> fmt::Result {
+        match self.0 {
+            Altitude::Known(steps) => write!(f, "{}", steps.feet()),
+            Altitude::None => write!(f, "none"),
+        }
+    }
+}
+
+impl fmt::Display for Text<Speed> {
+    fn fmt<W: fmt::Write>(&self, f: &mut fmt::Formatter<W>) -> fmt::Result {
+        match self.0 {
+            Speed::Knots(knots) => write!(f, "{knots}"),
+            Speed::Over => write!(f, "over"),
+            Speed::None => write!(f, "none"),
+        }
+    }
+}
+
+impl fmt::Display for Text<Climb> {
+    fn fmt<W: fmt::Write>(&self, f: &mut fmt::Formatter<W>) -> fmt::Result {
+        match self.0 {
+            Climb::Steps(steps) => write!(f, "{steps}"),
+            Climb::Above => write!(f, "above"),
+            Climb::Below => write!(f, "below"),
+            Climb::None => write!(f, "none"),
+        }
+    }
+}
+
+impl fmt::Display for Text<CallSign> {
+    fn fmt<W: fmt::Write>(&self, f: &mut fmt::Formatter<W>) -> fmt::Result {
+        let CallSign(a, b, c, d, e, g, h, i) = self.0;
+        write!(f, "{}", Hex(&[a, b, c, d, e, g, h, i]))
     }
 }
 
 // What writing gives.
 fn print_written(rt: &impl Print, message: Message, payload: &[u8]) {
     let mut out = [0u8; 436];
-    let written = messages::write(message, payload, &mut out);
-    match written {
+    match messages::write(message, payload, &mut out) {
         Written::Bytes(n) => {
-            print(rt, " ");
             printing::hex_bytes(rt, &out, n);
         }
         Written::Refused(n) => {
-            print(rt, " refused");
-            print_byte(rt, n);
+            let _ = print!(rt; "refused {n}");
         }
     }
 }
 
 fn print_read(rt: &impl Print, part: &[u8]) {
-    let reading = messages::read(part);
-    match reading {
+    match messages::read(part) {
         Reading::Message(message) => {
-            print(rt, "0 ");
-            print_message(rt, message);
+            let _ = print!(rt; "0 {} ", Text(message));
             print_written(rt, message, uplink::payload(part));
         }
         Reading::Refused(n) => {
             let _ = print!(rt; "{n}");
         }
     }
-    print(rt, "\n");
+    let _ = println!(rt; "");
 }
 
-fn number(high: u8, low: u8) -> usize
-    ensures { result < 65536 }
-{
-    (high as usize) * 256 + (low as usize)
-}
-
-// Answers where the next record starts: the input's end where this one is cut short.
-fn read_record(rt: &(impl Print + Eprint), input: &[u8], at: usize) -> usize
-    requires { at + 2 ≤ length input.now }
-    ensures { (at < result) × (result ≤ length input.now) }
-{
-    let size = number(input[at], input[at + 1]);
-    let start = at + 2;
-    let end = start + size;
-    if input.len() < end {
-        let _ = eprintln!(rt; "a message is cut short");
-        return input.len();
-    }
-    print_read(rt, &input[start..end]);
-    end
-}
-
+// Up to a record that is cut short.
 fn read_records(rt: &(impl Print + Eprint), input: &[u8]) {
-    let mut at = 0;
-    while 2 <= input.len() - at {
-        at = read_record(rt, input, at);
+    for record in (Records::<2, 0> { rest: input }) {
+        let Ok(record) = record else {
+            let _ = eprintln!(rt; "a message is cut short");
+            return;
+        };
+        print_read(rt, record.body);
     }
 }
 

@@ -11,7 +11,7 @@ pub returns : goal.returns
 returns c =
     let p = c.put_field-p in
     let q = c.put_field in
-    let g = c.steady-l in
+    let g = c.steady in
     let out = c.args.out.now in
-    let line : Stored out 0 (ending g.result) q.result q.new.out = ending_stored out g.result.lead (g.result.taken - g.result.after) p.ensures.stored q.ensures.stored in
-    record { stored = rw g.ensures.0 at line; upper_bound = omega (arith, p.ensures.upper_bound, q.ensures.upper_bound, p.auto.out, q.auto.out) }
+    let line : Stored out 0 (ending g.result.lister) q.result q.new.out = ending_stored c.copy_from_slice.new.self g.result.lister.lead (g.result.lister.taken - g.result.lister.after) c.copy_from_slice.ensures.after (omega arith) p.ensures.stored q.ensures.stored in
+    record { stored = rw g.ensures at line; upper_bound = omega (arith, p.ensures.upper_bound, q.ensures.upper_bound, p.auto.out, q.auto.out) }

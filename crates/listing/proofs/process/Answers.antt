@@ -10,37 +10,37 @@ use Rattle.listing.proofs.process.Goals as goal
 
 pub loop-out-init : goal.loop-out-init
 loop-out-init c =
-    (omega arith, running_start (state c.settled-l.result c.settled-l.new.room) c.args.bytes.now c.args.out.now c.settled-l.ensures.1)
+    (omega arith, running_start (state c.settled-l.result.lister c.settled-l.new.room) c.args.bytes.now c.args.out.now c.settled-l.result.sane)
 
 pub pass-p-requires : goal.pass-p-requires
 pass-p-requires c =
     let z = c.args in
-    (c.loop-out.invariant.1.sane, omega (arith, running_taken c.loop-out.invariant.1, length-take (c.up_to_limit-end.result - c.loop-out.i) (drop c.loop-out.i z.bytes.now)))
+    omega (arith, running_taken c.loop-out.invariant.1, length-take (c.up_to_limit-end.result - c.loop-out.i) (drop c.loop-out.i z.bytes.now))
 
 pub overflow_add-i : goal.overflow_add-i
 overflow_add-i c =
     let l = c.loop-out in
-    omega (arith, pass_running _ _ l.invariant.1 c.loop-out-test.true l.invariant.0 c.settled-l.ensures.1.few c.up_to_limit-end.ensures c.pass-p.ensures.taken_value c.pass-p.ensures.room_after)
+    omega (arith, pass_running _ _ l.invariant.1 c.loop-out-test.true l.invariant.0 c.settled-l.result.sane.few c.up_to_limit-end.ensures c.pass-p.ensures.taken_value c.pass-p.ensures.room_after)
 
 pub returns-then-end-i : goal.returns-then-end-i
 returns-then-end-i c =
     let l = c.loop-out in
-    let w = (pass_running _ _ l.invariant.1 c.loop-out-test.true l.invariant.0 c.settled-l.ensures.1.few c.up_to_limit-end.ensures c.pass-p.ensures.taken_value c.pass-p.ensures.room_after).1 in
-    running_stop c.settled-l.ensures.0 w (taken_stop w _ (omega arith))
+    let w = (pass_running _ _ l.invariant.1 c.loop-out-test.true l.invariant.0 c.settled-l.result.sane.few c.up_to_limit-end.ensures c.pass-p.ensures.taken_value c.pass-p.ensures.room_after).1 in
+    running_stop c.settled-l.ensures w (taken_stop w _ (omega arith))
 
 pub advance-a-requires : goal.advance-a-requires
 advance-a-requires c =
     let l = c.loop-out in
-    let w = (pass_running _ _ l.invariant.1 c.loop-out-test.true l.invariant.0 c.settled-l.ensures.1.few c.up_to_limit-end.ensures c.pass-p.ensures.taken_value c.pass-p.ensures.room_after).1 in
-    (w.sane, omega (arith, running_taken w), omega arith)
+    let w = (pass_running _ _ l.invariant.1 c.loop-out-test.true l.invariant.0 c.settled-l.result.sane.few c.up_to_limit-end.ensures c.pass-p.ensures.taken_value c.pass-p.ensures.room_after).1 in
+    (omega (arith, running_taken w), omega arith)
 
 pub loop-out-preserved : goal.loop-out-preserved
 loop-out-preserved c =
     let g = c.advance-a in
     let l = c.loop-out in
-    let w = (pass_running _ _ l.invariant.1 c.loop-out-test.true l.invariant.0 c.settled-l.ensures.1.few c.up_to_limit-end.ensures c.pass-p.ensures.taken_value c.pass-p.ensures.room_after).1 in
+    let w = (pass_running _ _ l.invariant.1 c.loop-out-test.true l.invariant.0 c.settled-l.result.sane.few c.up_to_limit-end.ensures c.pass-p.ensures.taken_value c.pass-p.ensures.room_after).1 in
     (omega arith, running_more w (omega arith) (omega (arith, running_taken w)) (omega (arith, w.same)) g.ensures.room_after g.ensures.stored g.ensures.end_bound)
 
 pub returns : goal.returns
 returns c =
-    running_stop c.settled-l.ensures.0 c.loop-out.invariant.1 (taken_room _ _ _ (omega (arith, c.loop-out-test.false, c.loop-out.invariant.1.same)))
+    running_stop c.settled-l.ensures c.loop-out.invariant.1 (taken_room _ _ _ (omega (arith, c.loop-out-test.false, c.loop-out.invariant.1.same)))

@@ -9,12 +9,14 @@ use Rattle.listing.proofs.steady.Goals as goal
 pub returns-then-holds : goal.returns-then-holds
 returns-then-holds c =
     let l = c.args.lister in
-    let w = sane_holds l (sym c.holds.ensures ∙ c.if-holds.true) in
-    (sym (steady_sane l w), w)
+    sym (steady_sane l (sane_holds l (sym c.holds.ensures ∙ c.if-holds.true)))
+
+pub invariant_of-result-2 : goal.invariant_of-result-2
+invariant_of-result-2 c = record { sane = rw c.opening.ensures sane_opening }
 
 pub returns : goal.returns
 unfolding steady
 returns c =
     let l = c.args.lister in
     let lost : holds l ≡ false = sym c.holds.ensures ∙ c.if-holds.false in
-    (c.opening.ensures ∙ ap (λ (t : Bool). cond t l opening) (sym lost), rw c.opening.ensures sane_opening)
+    c.opening.ensures ∙ ap (λ (t : Bool). cond t l opening) (sym lost)
