@@ -69,10 +69,10 @@ fn frame_answer(framed: Result<usize, Refusal>) -> FrameAnswer
 {
     match framed {
         Ok(length) => FrameAnswer { number: 0, length },
-        Err(refusal) => FrameAnswer {
-            number: refusal.number(),
-            length: 0,
-        },
+        Err(refusal) => {
+            let number = refusal.number();
+            FrameAnswer { number, length: 0 }
+        }
     }
 }
 
