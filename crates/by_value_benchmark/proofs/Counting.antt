@@ -1,6 +1,6 @@
 -- The turns of `by_value_answers`.
 -- Assumes nothing.
-use mathlib.Core.Path.{◌≡◌, sym, ap, ◌∙◌}
+use mathlib.Core.Path.{◌≡◌, refl, sym, ap, ◌∙◌}
 use mathlib.Core.Bool.{Bool, true, false, cond}
 use Prim.Native.Nat.{ℕ, ◌+◌, ◌≤◌, ◌<◌}
 use mathlib.Core.List.{List, ◌∷◌}
@@ -8,11 +8,16 @@ use native.Mathlib.Omega.{arith}
 use native.Mathlib.Numerals.{add-one}
 use lib.ListN.{length, drop, get_or, drop_of_length-le}
 use lib.Seq.{drop-cons}
+use mir.Val.{bool_byte}
 use Rattle.collecting.specs.declared.Answer.{Answer}
 use Rattle.collecting.specs.declared.Collector.{Collector}
 use Rattle.collecting.specs.Step.{next, answer_to}
 use Rattle.collecting.specs.Stream.{is_answered}
 use Rattle.by_value_benchmark.specs.Answers.{answer_count}
+
+pub byte_of : (t : Bool) → bool_byte t ≡ cond t 1 0
+byte_of true = refl
+byte_of false = refl
 
 pub at_most_one : (a : Answer) → cond (is_answered a) 1 0 ≤ 1
 at_most_one a = go (is_answered a)

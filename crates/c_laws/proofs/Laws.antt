@@ -11,50 +11,52 @@ use lib.Signed.{mag}
 use borrow.Author.Tests.{leb-true, le-leb, lt-leb, eqb-true, eq-eqb, ne_eqb}
 use Rattle.numbers.specs.Bytes.{AreBytes}
 use Rattle.numbers.proofs.Every.{both, also_false, chosen}
-use Rattle.codec.specs.Reading.{misfit, reading}
-use Rattle.codec.specs.declared.Written.TheVariants.{Refused}
+use Rattle.std.specs.Prelude.{Ok, Err, unwrap_or}
+use Rattle.refusals.specs.declared.Refusal.TheVariants.{WrongLength}
+use Rattle.codec.specs.Reading.{fit, reading}
 use Rattle.codec.specs.Writing.{written_number, writing}
-use Rattle.codec.proofs.Outcomes.{accepted_as, other_id}
+use Rattle.codec.proofs.Outcomes.{other_id}
 use Rattle.units.specs.declared.TerrainFeet.{TerrainFeet}
-use Rattle.message_types.specs.declared.UplinkRead.{UplinkRead}
-use Rattle.heartbeat.specs.Heartbeat.{heartbeat_in, good_heartbeat, heartbeat_bytes, heartbeat_refused}
+use Rattle.heartbeat.specs.Heartbeat.{heartbeat_in, good_heartbeat, heartbeat_bytes}
 use Rattle.heartbeat.proofs.Laws as heartbeats
-use Rattle.initialization.specs.Initialization.{initialization_in, good_initialization, initialization_bytes, initialization_refused}
+use Rattle.initialization.specs.Initialization.{initialization_in, good_initialization, initialization_bytes}
 use Rattle.initialization.proofs.Laws as initializations
-use Rattle.altitudes.specs.Height.{terrain_in, good_terrain, terrain_bytes, height_refused}
-use Rattle.altitudes.specs.Geometric.{geometric_in, good_geometric, geometric_bytes, geometric_refused}
+use Rattle.altitudes.specs.Height.{terrain_in, good_terrain, terrain_bytes}
+use Rattle.altitudes.specs.Geometric.{geometric_in, good_geometric, geometric_bytes}
 use Rattle.altitudes.specs.Claims.{TypedHeight}
 use Rattle.altitudes.proofs.Back as altitudes
 use Rattle.uplink.specs.Reception.{good_reception}
-use Rattle.uplink.specs.Uplink.{uplink_in, good_uplink, uplink_bytes, uplink_refused, writing_uplink}
+use Rattle.uplink.specs.Uplink.{uplink_in, good_uplink, uplink_bytes, read_uplink, writing_uplink}
 use Rattle.uplink.proofs.Uplinks as uplinks
 use Rattle.report.specs.Bytes.{report_in, report_bytes}
-use Rattle.report.specs.Reading.{good_report, report_accepted, report_refused}
+use Rattle.report.specs.Reading.{good_report, in_numbers, report_read}
 use Rattle.report.proofs.Marked.{kind_code, kind_fits}
 use Rattle.report.proofs.Laws as reports
 use Rattle.c_structs.specs.declared.FlatUplink.{FlatUplink}
 use Rattle.c_structs.specs.declared.FlatHeight.{FlatHeight}
 use Rattle.c_structs.specs.declared.FlatGeometric.{FlatGeometric}
-use Rattle.c_structs.specs.Flat.{height_from, reception_mark, reception_steps, reception_from, flat_uplink, uplink_from, flat_height, terrain_from, flat_geometric, geometric_from}
+use Rattle.c_structs.specs.Flat.{none_mark, marked, height_from, reception_from, flat_uplink, uplink_from, flat_height, terrain_from, flat_geometric, geometric_from}
 use Rattle.c_structs.proofs.Laws.{there_and_back}
+use Rattle.c_structs.specs.Answers.{heartbeat_answer, initialization_answer, uplink_answer, height_answer, geometric_answer}
+use Rattle.c_report.specs.Answers.{report_answer}
 use Rattle.c_report.specs.declared.FlatReport.{FlatReport}
 use Rattle.c_report.specs.Flat.{track_number, flat_report, report_from}
 use Rattle.c_report.proofs.Laws.{report_there_and_back}
 use Rattle.messages.specs.Message.{kind_of, kind_number}
 use Rattle.messages.proofs.Retired.{id_of_retired, kind_of_retired}
-use Rattle.gdl90.specs.Messages.{kind_answer, uplink_answer, AnsweredWriting, good_flat_report}
+use Rattle.gdl90.specs.Messages.{kind_answer, AnsweredWriting, good_flat_report}
 use Rattle.c_laws.specs.Zeroed.{beside, zeroed_uplink, zeroed_height, zeroed_geometric, zeroed_report}
 use Rattle.c_laws.specs.Claims.{Any, RoundTrip, RoundTrips, RetiredKind, UnknownIn, position, altitude, track, speed, climb, UnknownMarks}
 use Rattle.c_laws.proofs.Fields as fields
-use Rattle.c_laws.proofs.Trips.{named_by, trip, back, again, kind_trip, bad}
+use Rattle.c_laws.proofs.Trips.{named_by, trip, read, back, again, kind_trip, bad}
 
 -- the feet are of their type, whatever the mark
 typed_height : (mark : ℕ) (h : TerrainFeet) → mag h.feet < 0x8000 → TypedHeight (height_from mark h)
-unfolding height_from
+unfolding marked
 typed_height mark h t = chosen TypedHeight mark 0 _ _ (λ e. t) (chosen TypedHeight mark 1 _ _ (λ e. tt) (omega arith))
 
 -- a time of reception that writing accepts comes back
-reception : (mark n : ℕ) → good_reception (reception_from mark n) ≡ true → (reception_mark (reception_from mark n) ≡ mark) × (reception_steps (reception_from mark n) ≡ beside mark 0 n)
+reception : (mark n : ℕ) → good_reception (reception_from mark n) ≡ true → (none_mark (reception_from mark n) ≡ mark) × (unwrap_or (reception_from mark n) 0 ≡ beside mark 0 n)
 reception mark n g = fields.reception_back mark n (fields.within 1 mark (fields.reception_unknown mark n) g)
 
 -- each struct that writing accepts comes back with 0 beside its marks
@@ -91,10 +93,10 @@ report_fine f g =
 -- an ownship's and a traffic report's
 report_trip : (id : ℕ) → kind_number (kind_of id) ≡ 0
     → RoundTrip id FlatReport Any (λ f. AnsweredWriting (good_flat_report f) (report_bytes id (report_from f)))
-    (λ m. (reading id 28 report_in good_report report_accepted report_refused m).number) (λ m. (reading id 28 report_in good_report report_accepted report_refused m).report) zeroed_report
-unfolding misfit report_bytes
+    (λ m. (report_answer (report_read id m)).number) (λ m. (report_answer (report_read id m)).report) zeroed_report
+unfolding fit report_bytes
 report_trip id known =
-    kind_trip id 28 report_in good_report report_accepted report_refused (λ r. r.number) (λ k. refl) (λ r. refl) (λ r. r.report) flat_report (λ r. refl)
+    kind_trip id 28 report_in good_report (λ r. (report_answer (in_numbers r)).number) (λ e. refl) (λ r. refl) (λ r. (report_answer (in_numbers r)).report) flat_report (λ r. refl)
     report_from (report_bytes id) good_flat_report report_there_and_back report_fine
     (λ r g. simp (le-leb (track_number r.track_kind) 3 (omega (arith, kind_fits r.track_kind)), report_there_and_back r, g))
     (known, λ e. omega arith) (λ r. simp (eq-eqb id id refl)) (λ f t g. reports.written_read id (report_from f) g) (reports.read_written id)
@@ -115,58 +117,58 @@ module _ (x : FlatUplink × List ℕ) where
   unfolding writing_uplink writing
   refuses room = go (eqb (length x.1) 432) (good_uplink (uplink_from x.0))
     where
-      go : (s t : Bool) → s && t ≡ false → written_number (cond s (writing t bytes room) (Refused 7)) ≡ 0 → ⊥
+      go : (s t : Bool) → s && t ≡ false → written_number (cond s (writing t bytes room) (Err WrongLength)) ≡ 0 → ⊥
       go true true e z = let y : ◌≡◌ {A = ℕ} 0 1 = cc in omega arith
       go true false e z = omega arith
       go false t e z = omega arith
 
-  uplink_back : good ≡ true → ((uplink_answer bytes).number ≡ 0) × (◌≡◌ {A = FlatUplink × List ℕ} ((uplink_answer bytes).uplink, drop 4 bytes) (zeroed_uplink x.0, x.1))
-  unfolding misfit
+  uplink_back : good ≡ true → ((uplink_answer (read_uplink bytes)).number ≡ 0) × (◌≡◌ {A = FlatUplink × List ℕ} ((uplink_answer (read_uplink bytes)).uplink, drop 4 bytes) (zeroed_uplink x.0, x.1))
+  unfolding fit
   uplink_back g =
       let b = both (eqb (length x.1) 432) _ g in
       let e = eqb-true (length x.1) 432 b.0 in
       let n = length bytes in
-      let fits : misfit 7 436 bytes ≡ 0 = simp (ne_eqb n 0 (λ z. omega arith), eq-eqb n 436 (omega arith)) in
+      let fits : fit 7 436 bytes ≡ Ok bytes = simp (ne_eqb n 0 (λ z. omega arith), eq-eqb n 436 (omega arith)) in
       let u = uplink_from x.0 in
       let r =
-      back 7 436 uplink_in good_uplink (λ y. record { number = 0; uplink = y }) uplink_refused (λ y. y.number) (λ k. refl) (λ y. refl) (λ y. flat_uplink y.uplink) flat_uplink (λ y. refl)
+      back 7 436 uplink_in good_uplink (λ y. (uplink_answer y).number) (λ e. refl) (λ y. refl) (λ y. (uplink_answer y).uplink) flat_uplink (λ y. refl)
       u fits (uplinks.written_read u x.1 b.1 e).0 b.1 (uplink_fine x.0 b.1) in
       (r.0, λ i. (r.1 i, x.1))
 
-uplink_again : (m : List ℕ) → AreBytes m → (uplink_answer m).number ≡ 0
-    → (good ((uplink_answer m).uplink, drop 4 m) ≡ true) × (bytes ((uplink_answer m).uplink, drop 4 m) ≡ m)
+uplink_again : (m : List ℕ) → AreBytes m → (uplink_answer (read_uplink m)).number ≡ 0
+    → (good ((uplink_answer (read_uplink m)).uplink, drop 4 m) ≡ true) × (bytes ((uplink_answer (read_uplink m)).uplink, drop 4 m) ≡ m)
 uplink_again m b z =
-    let r = accepted_as 7 436 uplink_in good_uplink (λ y. record { number = 0; uplink = y }) uplink_refused m (λ y. y.number) (λ k. refl) z in
+    let r = read 7 436 uplink_in good_uplink (λ y. (uplink_answer y).number) (λ e. refl) (λ y. refl) (λ y. (uplink_answer y).uplink) flat_uplink (λ y. refl) m z in
     let s =
-    again 7 436 uplink_in good_uplink (λ y. record { number = 0; uplink = y }) uplink_refused (λ y. y.number) (λ k. refl) (λ y. refl) (λ y. flat_uplink y.uplink) flat_uplink (λ y. refl)
+    again 7 436 uplink_in good_uplink (λ y. (uplink_answer y).number) (λ e. refl) (λ y. refl) (λ y. (uplink_answer y).uplink) flat_uplink (λ y. refl)
     uplink_from (λ u. uplink_bytes u (drop 4 m)) m there_and_back.0 (λ l i. uplinks.read_written m l b i) z in
     (simp (eq-eqb (length (drop 4 m)) 432 (omega (arith, length-drop 4 m, r.0.1)), s.0), s.1)
 
-uplink_named : (m : List ℕ) → (uplink_answer m).number ≡ 0 → kind_answer m ≡ record { number = 0; id = 7 }
+uplink_named : (m : List ℕ) → (uplink_answer (read_uplink m)).number ≡ 0 → kind_answer m ≡ record { number = 0; id = 7 }
 uplink_named m z =
-    let r = accepted_as 7 436 uplink_in good_uplink (λ y. record { number = 0; uplink = y }) uplink_refused m (λ y. y.number) (λ k. refl) z in
+    let r = read 7 436 uplink_in good_uplink (λ y. (uplink_answer y).number) (λ e. refl) (λ y. refl) (λ y. (uplink_answer y).uplink) flat_uplink (λ y. refl) m z in
     named_by 7 refl m (λ e. omega (arith, r.0.1)) r.0.0
 
-uplink_others : (m : List ℕ) → (get_or m 0 0 ≡ 7 → ⊥) → (uplink_answer m).number ≡ 6
-uplink_others m h = ap (λ (r : UplinkRead). r.number) (other_id 7 436 uplink_in good_uplink (λ y. record { number = 0; uplink = y }) uplink_refused m h)
+uplink_others : (m : List ℕ) → (get_or m 0 0 ≡ 7 → ⊥) → (uplink_answer (read_uplink m)).number ≡ 6
+uplink_others m h = rw (other_id 7 436 uplink_in good_uplink m h)
 
 pub round_trips : RoundTrips
-unfolding misfit terrain_bytes geometric_bytes
+unfolding fit terrain_bytes geometric_bytes
 round_trips = record {
   heartbeat =
-      kind_trip 0 7 heartbeat_in good_heartbeat (λ h. record { number = 0; heartbeat = h }) heartbeat_refused (λ r. r.number) (λ k. refl) (λ h. refl) (λ r. r.heartbeat) (λ h. h) (λ h. refl)
+      kind_trip 0 7 heartbeat_in good_heartbeat (λ r. (heartbeat_answer r).number) (λ e. refl) (λ h. refl) (λ r. (heartbeat_answer r).heartbeat) (λ h. h) (λ h. refl)
       (λ h. h) heartbeat_bytes good_heartbeat (λ h. refl) (λ h g. (g, refl)) (λ h g. g) (refl, λ e. omega arith) (λ h. refl) (λ h t g. heartbeats.written_read h g) heartbeats.read_written;
   initialization =
-      kind_trip 2 3 initialization_in good_initialization (λ i. record { number = 0; initialization = i }) initialization_refused (λ r. r.number) (λ k. refl) (λ i. refl) (λ r. r.initialization) (λ i. i) (λ i. refl)
+      kind_trip 2 3 initialization_in good_initialization (λ r. (initialization_answer r).number) (λ e. refl) (λ i. refl) (λ r. (initialization_answer r).initialization) (λ i. i) (λ i. refl)
       (λ i. i) initialization_bytes good_initialization (λ i. refl) (λ i g. (g, refl)) (λ i g. g) (refl, λ e. omega arith) (λ i. refl) (λ i t g. initializations.written_read i g) initializations.read_written;
   uplink = trip (λ x. writing_uplink (uplink_from x.0) x.1) good bytes accepts refuses (λ x t. uplink_back x) uplink_again uplink_named uplink_others;
   height =
-      kind_trip 9 3 terrain_in good_terrain (λ h. record { number = 0; height = h }) height_refused (λ r. r.number) (λ k. refl) (λ h. refl) (λ r. flat_height r.height) flat_height (λ h. refl)
+      kind_trip 9 3 terrain_in good_terrain (λ r. (height_answer r).number) (λ e. refl) (λ h. refl) (λ r. (height_answer r).height) flat_height (λ h. refl)
       terrain_from terrain_bytes (λ f. good_terrain (terrain_from f)) there_and_back.1 (λ f g. (g, height_fine f g)) (λ h g. ap good_terrain (there_and_back.1 h) ∙ g) (refl, λ e. omega arith) (λ h. refl)
       (λ f t g. altitudes.terrain_written_read (terrain_from f) (typed_height f.height_mark f.height t) g) altitudes.terrain_read_written;
   ownship = report_trip 10 refl;
   geometric =
-      kind_trip 11 5 geometric_in good_geometric (λ g. record { number = 0; geometric = g }) geometric_refused (λ r. r.number) (λ k. refl) (λ g. refl) (λ r. flat_geometric r.geometric) flat_geometric (λ g. refl)
+      kind_trip 11 5 geometric_in good_geometric (λ r. (geometric_answer r).number) (λ e. refl) (λ g. refl) (λ r. (geometric_answer r).geometric) flat_geometric (λ g. refl)
       geometric_from geometric_bytes (λ f. good_geometric (geometric_from f)) there_and_back.2 (λ f g. (g, geometric_fine f g)) (λ y g. ap good_geometric (there_and_back.2 y) ∙ g) (refl, λ e. omega arith) (λ y. refl)
       (λ f t g. altitudes.geometric_written_read (geometric_from f) t g) altitudes.geometric_read_written;
   traffic = report_trip 20 refl;

@@ -11,10 +11,12 @@ use lib.Seq.{take_at}
 use borrow.Author.Tests.{ne_eqb, le-leb}
 use Rattle.numbers.specs.Bytes.{AreBytes}
 use Rattle.numbers.specs.Lent.{written}
-use Rattle.codec.specs.declared.Written.{Written}
-use Rattle.codec.specs.declared.Written.TheVariants.{Bytes, Refused}
-use Rattle.codec.specs.Reading.{misfit, reading}
-use Rattle.codec.proofs.Outcomes.{accepted_as, other_id}
+use Rattle.std.specs.Prelude.{Result, Ok, Err}
+use Rattle.refusals.specs.declared.Refusal.{Refusal}
+use Rattle.refusals.specs.declared.Refusal.TheVariants as refusal
+use Rattle.refusals.specs.Numbers.{refusal_number}
+use Rattle.codec.specs.Reading.{fit, reading}
+use Rattle.codec.proofs.Outcomes.{accepted, other_id}
 use Rattle.codec.specs.Writing.{written_number, written_output, writing}
 use Rattle.messages.specs.Message.{kind_of, kind_in, kind_number}
 use Rattle.gdl90.specs.declared.WriteAnswer.{WriteAnswer}
@@ -27,7 +29,7 @@ module _ {b out left : List ℕ} {a : WriteAnswer} where
   unfolding writing written
   whole w z = go (leb (length b) (length out)) w.answers w.leaves
     where
-      go : (t : Bool) → a ≡ write_answer (cond t (Bytes (length b)) (Refused 9)) → left ≡ written (written_output (cond t (Bytes (length b)) (Refused 9)) b) out
+      go : (t : Bool) → a ≡ write_answer (cond t (Ok (length b)) (Err refusal.NoRoom)) → left ≡ written (written_output (cond t (Ok (length b)) (Err refusal.NoRoom)) b) out
           → take a.length left ≡ b
       go true e l = rw (e, l) (take_at b (drop (length b) out) (length b) refl)
       go false e l = absurd (omega (arith, ap (λ (x : WriteAnswer). x.number) e))
@@ -47,7 +49,7 @@ pub named_by : (id : ℕ) → kind_number (kind_of id) ≡ 0 → (m : List ℕ) 
 unfolding kind_in
 named_by id known m some first = simp (ne_eqb (length m) 0 some, first, known)
 
-module _ {id : ℕ} {X : Type 0} {Typed : X → Type 0} {number : List ℕ → ℕ} {value : List ℕ → X} {zeroed : X → X} (way : X → ℕ → Written) (good : X → Bool) (bytes : X → List ℕ)
+module _ {id : ℕ} {X : Type 0} {Typed : X → Type 0} {number : List ℕ → ℕ} {value : List ℕ → X} {zeroed : X → X} (way : X → ℕ → Result ℕ Refusal) (good : X → Bool) (bytes : X → List ℕ)
     -- writing a good value is the same for every kind, and no other is accepted
     (accepts : (x : X) (room : ℕ) → good x ≡ true → way x room ≡ writing true (bytes x) room)
     (refuses : (x : X) (room : ℕ) → good x ≡ false → written_number (way x room) ≡ 0 → ⊥)
@@ -83,37 +85,58 @@ unfolding writing
 usual_trip good bytes back again named others =
     trip (λ x room. writing (good x) (bytes x) room) good bytes (λ x room g. ap (λ (t : Bool). writing t (bytes x) room) g) (λ x room g z. omega (arith, rw g at z)) back again named others
 
--- one kind's reading, whose answer tells of a refusal by its number: `held` is the value that bytes hold, `flat` its struct
-module _ {X Y R : Type 0} (id size : ℕ) (held : List ℕ → Y) (good : Y → Bool) (accepted : Y → R) (refusal : ℕ → R) (number : R → ℕ) (tells : (k : ℕ) → number (refusal k) ≡ k)
-    (zero : (y : Y) → number (accepted y) ≡ 0) (value : R → X) (flat : Y → X) (flattens : (y : Y) → value (accepted y) ≡ flat y) where
-  abbrev answer : List ℕ → R
-  answer = reading id size held good accepted refusal
+never_0 : (e : Refusal) → refusal_number e ≡ 0 → ⊥
+never_0 refusal.OtherId z = omega arith
+never_0 refusal.WrongLength z = omega arith
+never_0 refusal.BadField z = omega arith
+never_0 refusal.NoRoom z = omega arith
+never_0 refusal.NotFramed z = omega arith
+never_0 refusal.PastTheEnd z = omega arith
+never_0 refusal.NoFrame z = omega arith
+never_0 refusal.NoHeader z = omega arith
+never_0 refusal.NoText z = omega arith
+never_0 refusal.NoCharacter z = omega arith
+never_0 refusal.RetiredId z = omega arith
 
-  pub back : {m : List ℕ} (y : Y) {x : X} → misfit id size m ≡ 0 → held m ≡ y → good y ≡ true → flat y ≡ x → (number (answer m) ≡ 0) × (value (answer m) ≡ x)
+-- one kind's reading, of which C has the number and the value: `held` is the value that bytes hold, `flat` its struct
+module _ {X Y : Type 0} (id size : ℕ) (held : List ℕ → Y) (good : Y → Bool) (number : Result Y Refusal → ℕ) (tells : (e : Refusal) → number (Err e) ≡ refusal_number e)
+    (zero : (y : Y) → number (Ok y) ≡ 0) (value : Result Y Refusal → X) (flat : Y → X) (flattens : (y : Y) → value (Ok y) ≡ flat y) where
+  abbrev answer : List ℕ → Result Y Refusal
+  answer = reading id size held good
+
+  -- 0 is the number of what is read
+  pub read : (m : List ℕ) → number (answer m) ≡ 0 → ((get_or m 0 0 ≡ id) × (length m ≡ size)) × (good (held m) ≡ true) × (answer m ≡ Ok (held m))
+  read m z = go (answer m) refl z
+    where
+      go : (r : Result Y Refusal) → answer m ≡ r → number r ≡ 0 → ((get_or m 0 0 ≡ id) × (length m ≡ size)) × (good (held m) ≡ true) × (answer m ≡ Ok (held m))
+      go (Err e) a z = absurd (never_0 e (sym (tells e) ∙ z))
+      go (Ok y) a z = let r = accepted id size held good m a in (r.0, ap good r.2 ∙ r.1, a ∙ ap Ok (sym r.2))
+
+  pub back : {m : List ℕ} (y : Y) {x : X} → fit id size m ≡ Ok m → held m ≡ y → good y ≡ true → flat y ≡ x → (number (answer m) ≡ 0) × (value (answer m) ≡ x)
   unfolding reading
   back y fits h g f = let e = ap good h ∙ g in (simp (fits, e) (zero _), simp (fits, e) (flattens _ ∙ ap flat h ∙ f))
 
   pub again : (from : X → Y) (bytes : Y → List ℕ) (m : List ℕ) → ((y : Y) → from (flat y) ≡ y) → (length m ≡ size → get_or m 0 0 ≡ id → bytes (held m) ≡ m) → number (answer m) ≡ 0
       → (good (from (value (answer m))) ≡ true) × (bytes (from (value (answer m))) ≡ m)
   again from bytes m there same z =
-      let r = accepted_as id size held good accepted refusal m number tells z in
+      let r = read m z in
       let e : from (value (answer m)) ≡ held m = ap from (ap value r.2 ∙ flattens (held m)) ∙ there (held m) in
       (ap good e ∙ r.1, ap bytes e ∙ same r.0.1 r.0.0)
 
   -- the round trip, from the kind's own laws: `from` is the way back from a struct, which is `fine` where writing accepts it
   pub kind_trip : {Typed : X → Type 0} {zeroed : X → X} (from : X → Y) (bytes : Y → List ℕ) (fine : X → Bool) → ((y : Y) → from (flat y) ≡ y)
       → ((x : X) → fine x ≡ true → (good (from x) ≡ true) × (flat (from x) ≡ zeroed x)) → ((y : Y) → good y ≡ true → fine (flat y) ≡ true)
-      → (kind_number (kind_of id) ≡ 0) × (size ≡ 0 → ⊥) → ((y : Y) → misfit id size (bytes y) ≡ 0) → ((x : X) → Typed x → good (from x) ≡ true → held (bytes (from x)) ≡ from x)
+      → (kind_number (kind_of id) ≡ 0) × (size ≡ 0 → ⊥) → ((y : Y) → fit id size (bytes y) ≡ Ok (bytes y)) → ((x : X) → Typed x → good (from x) ≡ true → held (bytes (from x)) ≡ from x)
       → ((m : List ℕ) → length m ≡ size → AreBytes m → get_or m 0 0 ≡ id → bytes (held m) ≡ m)
       → RoundTrip id X Typed (λ x. AnsweredWriting (fine x) (bytes (from x))) (λ m. number (answer m)) (λ m. value (answer m)) zeroed
   kind_trip from bytes fine there fine-good good-fine known fits written_read read_written =
       usual_trip fine (λ x. bytes (from x))
       (λ x t f. let g = fine-good x f in back (from x) (fits (from x)) (written_read x t g.0) g.0 g.1)
       (λ m b z.
-      let r = accepted_as id size held good accepted refusal m number tells z in
+      let r = read m z in
       let e : value (answer m) ≡ flat (held m) = ap value r.2 ∙ flattens (held m) in
       (ap fine e ∙ good-fine (held m) r.1, ap (λ (x : X). bytes (from x)) e ∙ ap bytes (there (held m)) ∙ read_written m r.0.1 b r.0.0))
       (λ m z.
-      let r = accepted_as id size held good accepted refusal m number tells z in
+      let r = read m z in
       named_by id known.0 m (λ e. known.1 (sym r.0.1 ∙ e)) r.0.0)
-      (λ m h. ap number (other_id id size held good accepted refusal m h) ∙ tells 6)
+      (λ m h. ap number (other_id id size held good m h) ∙ tells refusal.OtherId)

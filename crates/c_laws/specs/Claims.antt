@@ -6,16 +6,21 @@ use Rattle.numbers.specs.Bytes.{AreBytes}
 use Rattle.numbers.specs.Lent.{written}
 use Rattle.message_types.specs.declared.Heartbeat.{Heartbeat}
 use Rattle.message_types.specs.declared.Initialization.{Initialization}
-use Rattle.heartbeat.specs.Heartbeat.{heartbeat_read}
-use Rattle.initialization.specs.Initialization.{initialization_read}
+use Rattle.heartbeat.specs.Heartbeat.{read_heartbeat}
+use Rattle.initialization.specs.Initialization.{read_initialization}
+use Rattle.altitudes.specs.Height.{read_height}
+use Rattle.altitudes.specs.Geometric.{read_geometric}
+use Rattle.uplink.specs.Uplink.{read_uplink}
 use Rattle.report.specs.Reading.{ownship_read, traffic_read}
 use Rattle.c_structs.specs.declared.FlatUplink.{FlatUplink}
 use Rattle.c_structs.specs.declared.FlatHeight.{FlatHeight}
 use Rattle.c_structs.specs.declared.FlatGeometric.{FlatGeometric}
+use Rattle.c_structs.specs.Answers.{heartbeat_answer, initialization_answer, uplink_answer, height_answer, geometric_answer}
+use Rattle.c_report.specs.Answers.{report_answer}
 use Rattle.c_report.specs.declared.FlatReport.{FlatReport}
 use Rattle.messages.specs.Claims.{Retired}
 use Rattle.gdl90.specs.declared.WriteAnswer.{WriteAnswer}
-use Rattle.gdl90.specs.Messages.{kind_answer, uplink_answer, height_answer, geometric_answer}
+use Rattle.gdl90.specs.Messages.{kind_answer}
 use Rattle.gdl90.specs.Messages.{WritesHeartbeat, WritesInitialization, WritesUplink, WritesHeight, WritesOwnship, WritesGeometric, WritesTraffic}
 use Rattle.c_laws.specs.Zeroed.{zeroed_uplink, zeroed_height, zeroed_geometric, zeroed_report}
 
@@ -40,19 +45,23 @@ Any x = Unit {0}
 
 -- an uplink's value goes with its payload, which is the message from its fifth byte on
 pub record RoundTrips : Type 0 where
-  pub heartbeat : RoundTrip 0 Heartbeat Any WritesHeartbeat (λ m. (heartbeat_read m).number) (λ m. (heartbeat_read m).heartbeat) (λ h. h)
+  pub heartbeat : RoundTrip 0 Heartbeat Any WritesHeartbeat (λ m. (heartbeat_answer (read_heartbeat m)).number) (λ m. (heartbeat_answer (read_heartbeat m)).heartbeat) (λ h. h)
   pub initialization :
-      RoundTrip 2 Initialization Any WritesInitialization (λ m. (initialization_read m).number) (λ m. (initialization_read m).initialization) (λ i. i)
+      RoundTrip 2 Initialization Any WritesInitialization (λ m. (initialization_answer (read_initialization m)).number)
+      (λ m. (initialization_answer (read_initialization m)).initialization) (λ i. i)
   pub uplink :
-      RoundTrip 7 (FlatUplink × List ℕ) Any (λ x. WritesUplink x.0 x.1) (λ m. (uplink_answer m).number) (λ m. ((uplink_answer m).uplink, drop 4 m))
-      (λ x. (zeroed_uplink x.0, x.1))
+      RoundTrip 7 (FlatUplink × List ℕ) Any (λ x. WritesUplink x.0 x.1) (λ m. (uplink_answer (read_uplink m)).number)
+      (λ m. ((uplink_answer (read_uplink m)).uplink, drop 4 m)) (λ x. (zeroed_uplink x.0, x.1))
   pub height :
-      RoundTrip 9 FlatHeight (λ h. mag h.height.feet < 0x8000) WritesHeight (λ m. (height_answer m).number) (λ m. (height_answer m).height) zeroed_height
-  pub ownship : RoundTrip 10 FlatReport Any WritesOwnship (λ m. (ownship_read m).number) (λ m. (ownship_read m).report) zeroed_report
+      RoundTrip 9 FlatHeight (λ h. mag h.height.feet < 0x8000) WritesHeight (λ m. (height_answer (read_height m)).number)
+      (λ m. (height_answer (read_height m)).height) zeroed_height
+  pub ownship :
+      RoundTrip 10 FlatReport Any WritesOwnship (λ m. (report_answer (ownship_read m)).number) (λ m. (report_answer (ownship_read m)).report) zeroed_report
   pub geometric :
-      RoundTrip 11 FlatGeometric (λ g. mag g.altitude.steps < 0x8000) WritesGeometric (λ m. (geometric_answer m).number)
-      (λ m. (geometric_answer m).geometric) zeroed_geometric
-  pub traffic : RoundTrip 20 FlatReport Any WritesTraffic (λ m. (traffic_read m).number) (λ m. (traffic_read m).report) zeroed_report
+      RoundTrip 11 FlatGeometric (λ g. mag g.altitude.steps < 0x8000) WritesGeometric (λ m. (geometric_answer (read_geometric m)).number)
+      (λ m. (geometric_answer (read_geometric m)).geometric) zeroed_geometric
+  pub traffic :
+      RoundTrip 20 FlatReport Any WritesTraffic (λ m. (report_answer (traffic_read m)).number) (λ m. (report_answer (traffic_read m)).report) zeroed_report
 
 -- `gdl90_kind` answers 17 to a retired id (RULES 'Retired ids'), of whatever length, and to nothing else
 abbrev pub RetiredKind : Type 0

@@ -2,12 +2,8 @@
 -- beside: 0, the field is a number; 1, none; 2, over. With a mark the field is 0, and it is not looked at on the way back. Any other
 -- number is no mark: the way back then gives the field a number that writing refuses with 8.
 -- Assumes nothing.
-use Rattle.std.specs.Prelude.{ℕ, cond, eqb, pos, negsuc}
+use Rattle.std.specs.Prelude.{ℕ, cond, eqb, pos, negsuc, Option, Some, None, unwrap_or}
 use Rattle.units.specs.declared.TerrainFeet.{TerrainFeet}
-use Rattle.message_types.specs.declared.Reception.{Reception}
-use Rattle.message_types.specs.declared.Reception.TheVariants as reception
-use Rattle.message_types.specs.declared.Height.{Height}
-use Rattle.message_types.specs.declared.Height.TheVariants as height
 use Rattle.message_types.specs.declared.Merit.{Merit}
 use Rattle.message_types.specs.declared.Merit.TheVariants as merit
 use Rattle.message_types.specs.declared.Uplink.{Uplink}
@@ -17,30 +13,21 @@ use Rattle.c_structs.specs.declared.FlatUplink.{FlatUplink}
 use Rattle.c_structs.specs.declared.FlatHeight.{FlatHeight}
 use Rattle.c_structs.specs.declared.FlatGeometric.{FlatGeometric}
 
--- the time of reception
-abbrev pub reception_mark : Reception → ℕ
-reception_mark (reception.Steps n) = 0
-reception_mark reception.None = 1
+-- a field that may be none
+abbrev pub none_mark : {T : Type 0} → Option T → ℕ
+none_mark (Some x) = 0
+none_mark None = 1
 
-abbrev pub reception_steps : Reception → ℕ
-reception_steps (reception.Steps n) = n
-reception_steps reception.None = 0
+-- and back: the number, or the one that writing refuses
+unfoldable pub marked : {T : Type 0} → ℕ → T → T → Option T
+marked mark number refused = cond (eqb mark 0) (Some number) (cond (eqb mark 1) None (Some refused))
 
-unfoldable pub reception_from : ℕ → ℕ → Reception
-reception_from mark n = cond (eqb mark 0) (reception.Steps n) (cond (eqb mark 1) reception.None (reception.Steps 0xFFFFFF))
+-- the time of reception, and the height above terrain
+abbrev pub reception_from : ℕ → ℕ → Option ℕ
+reception_from mark n = marked mark n 0xFFFFFF
 
--- the height above terrain
-abbrev pub height_mark : Height → ℕ
-height_mark (height.Feet h) = 0
-height_mark height.None = 1
-
-abbrev pub height_feet : Height → TerrainFeet
-height_feet (height.Feet h) = h
-height_feet height.None = record { feet = pos 0 }
-
-unfoldable pub height_from : ℕ → TerrainFeet → Height
-height_from mark h =
-    cond (eqb mark 0) (height.Feet h) (cond (eqb mark 1) height.None (height.Feet (record { feet = negsuc 0x7FFF })))
+abbrev pub height_from : ℕ → TerrainFeet → Option TerrainFeet
+height_from mark h = marked mark h (record { feet = negsuc 0x7FFF })
 
 -- the figure of merit
 abbrev pub merit_mark : Merit → ℕ
@@ -59,13 +46,13 @@ merit_from mark n =
 
 -- each kind, there and back
 abbrev pub flat_uplink : Uplink → FlatUplink
-flat_uplink u = record { reception_mark = reception_mark u.reception; reception = reception_steps u.reception }
+flat_uplink u = record { reception_mark = none_mark u.reception; reception = unwrap_or u.reception 0 }
 
 abbrev pub uplink_from : FlatUplink → Uplink
 uplink_from f = record { reception = reception_from f.reception_mark f.reception }
 
 abbrev pub flat_height : HeightAboveTerrain → FlatHeight
-flat_height h = record { height_mark = height_mark h.height; height = height_feet h.height }
+flat_height h = record { height_mark = none_mark h.height; height = unwrap_or h.height (record { feet = pos 0 }) }
 
 abbrev pub terrain_from : FlatHeight → HeightAboveTerrain
 terrain_from f = record { height = height_from f.height_mark f.height }

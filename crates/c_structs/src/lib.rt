@@ -1,34 +1,54 @@
-// The typed messages but for reports as structs of numbers, for callers that know no enums, such as C's, there and back.
+// The typed messages but for reports as structs of numbers, for callers that know no enums, such as C's, there and back; and what reading
+// a message answers such a caller.
 #![tactic(auto)]
 
 ghost use Rattle.std.specs.Prelude.{◌≡◌};
-ghost use Rattle.c_structs.specs.Flat.{reception_mark, reception_steps, reception_from, flat_uplink, uplink_from};
-ghost use Rattle.c_structs.specs.Flat.{height_mark, height_feet, height_from, flat_height, terrain_from, merit_mark, merit_metres, merit_from, flat_geometric, geometric_from};
+ghost use Rattle.c_structs.specs.Flat.{none_mark, marked, flat_uplink, uplink_from, flat_height, terrain_from, merit_mark, merit_metres, merit_from, flat_geometric, geometric_from};
+ghost use Rattle.c_structs.specs.Answers.{heartbeat_answer, initialization_answer, uplink_answer, height_answer, geometric_answer};
 
-use message_types::{GeometricAltitude, Height, HeightAboveTerrain, Merit, Reception, Uplink};
+use message_types::{
+    GeometricAltitude, Heartbeat, HeightAboveTerrain, Initialization, Merit, Uplink,
+};
+use refusals::Refusal;
 use units::{GeometricSteps, TerrainFeet};
 
 #[repr(C)]
-#[derive(Clone, Copy)]
+#[derive(Clone, Copy, Debug, Default, PartialEq, Eq)]
 pub struct FlatUplink {
     pub reception_mark: u8,
     pub reception: u32,
 }
 
 #[repr(C)]
-#[derive(Clone, Copy)]
+#[derive(Clone, Copy, Debug, Default, PartialEq, Eq)]
 pub struct FlatHeight {
     pub height_mark: u8,
     pub height: TerrainFeet,
 }
 
 #[repr(C)]
-#[derive(Clone, Copy)]
+#[derive(Clone, Copy, Debug, Default, PartialEq, Eq)]
 pub struct FlatGeometric {
     pub altitude: GeometricSteps,
     pub warning: bool,
     pub merit_mark: u8,
     pub merit: u16,
+}
+
+// What reading one kind answers: the number, and the value, which is all zero with a refusal.
+// The C interface: an exported function takes no struct with a type parameter, so each kind has its own.
+#[repr(C)]
+#[derive(Clone, Copy)]
+pub struct HeartbeatRead {
+    pub number: u8,
+    pub heartbeat: Heartbeat,
+}
+
+#[repr(C)]
+#[derive(Clone, Copy)]
+pub struct InitializationRead {
+    pub number: u8,
+    pub initialization: Initialization,
 }
 
 #[repr(C)]
@@ -52,64 +72,111 @@ pub struct FlatGeometricRead {
     pub geometric: FlatGeometric,
 }
 
-fn reception_mark(reception: Reception) -> u8
-    ensures { result ≡ reception_mark reception }
-{
-    match reception {
-        Reception::Steps(_) => 0,
-        Reception::None => 1,
+impl From<Result<Heartbeat, Refusal>> for HeartbeatRead {
+    ghost from_gives = { λ read answer. answer ≡ heartbeat_answer read };
+
+    fn from(read: Result<Heartbeat, Refusal>) -> HeartbeatRead {
+        match read {
+            Ok(heartbeat) => HeartbeatRead {
+                number: 0,
+                heartbeat,
+            },
+            Err(refusal) => HeartbeatRead {
+                number: refusal.number(),
+                heartbeat: Heartbeat::default(),
+            },
+        }
     }
 }
 
-fn reception_steps(reception: Reception) -> u32
-    ensures { result ≡ reception_steps reception }
-{
-    match reception {
-        Reception::Steps(n) => n,
-        Reception::None => 0,
+impl From<Result<Initialization, Refusal>> for InitializationRead {
+    ghost from_gives = { λ read answer. answer ≡ initialization_answer read };
+
+    fn from(read: Result<Initialization, Refusal>) -> InitializationRead {
+        match read {
+            Ok(initialization) => InitializationRead {
+                number: 0,
+                initialization,
+            },
+            Err(refusal) => InitializationRead {
+                number: refusal.number(),
+                initialization: Initialization::default(),
+            },
+        }
     }
 }
 
-fn reception_from(mark: u8, steps: u32) -> Reception
-    ensures { result ≡ reception_from mark steps }
-{
-    if mark == 0 {
-        return Reception::Steps(steps);
-    }
-    if mark == 1 {
-        return Reception::None;
-    }
-    Reception::Steps(0xFFFFFF)
-}
+impl From<Result<Uplink, Refusal>> for FlatUplinkRead {
+    ghost from_gives = { λ read answer. answer ≡ uplink_answer read };
 
-fn height_mark(height: Height) -> u8
-    ensures { result ≡ height_mark height }
-{
-    match height {
-        Height::Feet(_) => 0,
-        Height::None => 1,
+    fn from(read: Result<Uplink, Refusal>) -> FlatUplinkRead {
+        match read {
+            Ok(uplink) => FlatUplinkRead {
+                number: 0,
+                uplink: flat_uplink(uplink),
+            },
+            Err(refusal) => FlatUplinkRead {
+                number: refusal.number(),
+                uplink: FlatUplink::default(),
+            },
+        }
     }
 }
 
-fn height_feet(height: Height) -> TerrainFeet
-    ensures { result ≡ height_feet height }
-{
-    match height {
-        Height::Feet(feet) => feet,
-        Height::None => TerrainFeet { feet: 0 },
+impl From<Result<HeightAboveTerrain, Refusal>> for FlatHeightRead {
+    ghost from_gives = { λ read answer. answer ≡ height_answer read };
+
+    fn from(read: Result<HeightAboveTerrain, Refusal>) -> FlatHeightRead {
+        match read {
+            Ok(height) => FlatHeightRead {
+                number: 0,
+                height: flat_height(height),
+            },
+            Err(refusal) => FlatHeightRead {
+                number: refusal.number(),
+                height: FlatHeight::default(),
+            },
+        }
     }
 }
 
-fn height_from(mark: u8, feet: TerrainFeet) -> Height
-    ensures { result ≡ height_from mark feet }
+impl From<Result<GeometricAltitude, Refusal>> for FlatGeometricRead {
+    ghost from_gives = { λ read answer. answer ≡ geometric_answer read };
+
+    fn from(read: Result<GeometricAltitude, Refusal>) -> FlatGeometricRead {
+        match read {
+            Ok(geometric) => FlatGeometricRead {
+                number: 0,
+                geometric: flat_geometric(geometric),
+            },
+            Err(refusal) => FlatGeometricRead {
+                number: refusal.number(),
+                geometric: FlatGeometric::default(),
+            },
+        }
+    }
+}
+
+// The mark of a field that may be none.
+fn none_mark<T: Copy>(field: Option<T>) -> u8
+    ensures { result ≡ none_mark field }
 {
-    if mark == 0 {
-        return Height::Feet(feet);
+    match field {
+        Some(_) => 0,
+        None => 1,
     }
-    if mark == 1 {
-        return Height::None;
+}
+
+// The field again. A mark that it has not gives a number that writing refuses.
+#[tactic(auto, unfolding(crate::specs::Flat::marked))]
+pub fn marked<T: Copy>(mark: u8, number: T, refused: T) -> Option<T>
+    ensures { result ≡ marked mark number refused }
+{
+    match mark {
+        0 => Some(number),
+        1 => None,
+        _ => Some(refused),
     }
-    Height::Feet(TerrainFeet { feet: -32768 })
 }
 
 fn merit_mark(merit: Merit) -> u8
@@ -127,82 +194,71 @@ fn merit_metres(merit: Merit) -> u16
 {
     match merit {
         Merit::Metres(n) => n,
-        Merit::None => 0,
-        Merit::Over => 0,
+        Merit::None | Merit::Over => 0,
     }
 }
 
+#[tactic(auto, unfolding(crate::specs::Flat::merit_from))]
 fn merit_from(mark: u8, metres: u16) -> Merit
     ensures { result ≡ merit_from mark metres }
 {
-    if mark == 0 {
-        return Merit::Metres(metres);
+    match mark {
+        0 => Merit::Metres(metres),
+        1 => Merit::None,
+        2 => Merit::Over,
+        _ => Merit::Metres(0x7FFF),
     }
-    if mark == 1 {
-        return Merit::None;
-    }
-    if mark == 2 {
-        return Merit::Over;
-    }
-    Merit::Metres(0x7FFF)
 }
 
 pub fn flat_uplink(uplink: Uplink) -> FlatUplink
     ensures { result ≡ flat_uplink uplink }
 {
-    let reception = uplink.reception;
     FlatUplink {
-        reception_mark: reception_mark(reception),
-        reception: reception_steps(reception),
+        reception_mark: none_mark(uplink.reception),
+        reception: uplink.reception.unwrap_or(0),
     }
 }
 
 pub fn uplink_from(flat: FlatUplink) -> Uplink
     ensures { result ≡ uplink_from flat }
 {
-    let reception = reception_from(flat.reception_mark, flat.reception);
+    let reception = marked(flat.reception_mark, flat.reception, 0xFFFFFF);
     Uplink { reception }
 }
 
 pub fn flat_height(value: HeightAboveTerrain) -> FlatHeight
     ensures { result ≡ flat_height value }
 {
-    let height = value.height;
     FlatHeight {
-        height_mark: height_mark(height),
-        height: height_feet(height),
+        height_mark: none_mark(value.height),
+        height: value.height.unwrap_or(TerrainFeet { feet: 0 }),
     }
 }
 
 pub fn terrain_from(flat: FlatHeight) -> HeightAboveTerrain
     ensures { result ≡ terrain_from flat }
 {
-    let feet = flat.height;
-    let height = height_from(flat.height_mark, feet);
+    let height = marked(flat.height_mark, flat.height, TerrainFeet { feet: -32768 });
     HeightAboveTerrain { height }
 }
 
 pub fn flat_geometric(value: GeometricAltitude) -> FlatGeometric
     ensures { result ≡ flat_geometric value }
 {
-    let altitude = value.altitude;
-    let merit = value.merit;
     FlatGeometric {
-        altitude,
+        altitude: value.altitude,
         warning: value.warning,
-        merit_mark: merit_mark(merit),
-        merit: merit_metres(merit),
+        merit_mark: merit_mark(value.merit),
+        merit: merit_metres(value.merit),
     }
 }
 
 pub fn geometric_from(flat: FlatGeometric) -> GeometricAltitude
     ensures { result ≡ geometric_from flat }
 {
-    let merit = merit_from(flat.merit_mark, flat.merit);
-    let altitude = flat.altitude;
     GeometricAltitude {
-        altitude,
+        altitude: flat.altitude,
         warning: flat.warning,
-        merit,
+        merit: merit_from(flat.merit_mark, flat.merit),
     }
 }

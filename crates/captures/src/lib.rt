@@ -1,4 +1,5 @@
 // Packet captures, told from recordings by how their files begin (RULES 'Notes').
+// The number stays a plain one: `begun` and `is_capture` promise their answer for every number, and `Told` names `start` and `begun`.
 #![tactic(auto)]
 
 ghost use Rattle.std.specs.Prelude.{◌≡◌};
@@ -20,13 +21,11 @@ pub fn begun(before: u64, bytes: &[u8]) -> u64
     ensures { result ≡ begun before bytes.now }
 {
     let mut n = before;
-    let mut i = 0;
-    while i < bytes.len() {
+    for byte in bytes {
         if LEAST <= n {
             return n;
         }
-        n = n * 256 + bytes[i] as u64;
-        i += 1;
+        n = n * 256 + u64::from(*byte);
     }
     n
 }
@@ -35,6 +34,8 @@ pub fn begun(before: u64, bytes: &[u8]) -> u64
 pub fn is_capture(n: u64) -> bool
     ensures { result ≡ is_capture n }
 {
-    ((n == 0x1A1B2C3D4) | (n == 0x1D4C3B2A1))
-        | (((n == 0x1A1B23C4D) | (n == 0x14D3CB2A1)) | (n == 0x10A0D0D0A))
+    matches!(
+        n,
+        0x1A1B2C3D4 | 0x1D4C3B2A1 | 0x1A1B23C4D | 0x14D3CB2A1 | 0x10A0D0D0A
+    )
 }

@@ -4,15 +4,13 @@
 ghost use Rattle.std.specs.Prelude.{◌≡◌};
 ghost use Rattle.characters.specs.Characters.{is_listed, are_listed};
 
-// The list has every byte of a text. It does not stop at one that the list lacks, so that many can be tested at once.
+// The list has every byte of a text. It does not stop at one that the list lacks, as `all` would, so that many can be tested at once.
 pub fn are_listed(text: &[u8]) -> bool
     ensures { result ≡ are_listed text.now }
 {
     let mut all = true;
-    let mut i = 0;
-    while i < text.len() {
-        all = all & is_listed(text[i]);
-        i += 1;
+    for byte in text {
+        all &= is_listed(*byte);
     }
     all
 }

@@ -1,29 +1,52 @@
 // Collecting frames from a byte stream (001 §2.2.1; RULES 'Collecting').
 #![tactic(auto)]
 
-ghost use Rattle.std.specs.Prelude.{◌≡◌, ◌++◌, ◌+◌, ◌-◌, ◌*◌, ◌≤◌, ◌<◌, min, length, take, replicate};
+ghost use Rattle.std.specs.Prelude.{◌≡◌, ◌==◌, ◌++◌, ◌+◌, ◌-◌, ◌*◌, ◌≤◌, ◌<◌, length, take, replicate};
+ghost use Rattle.std.specs.List.{position as first_place};
 ghost use Rattle.fcs.specs.Fcs.{fcs};
 ghost use Rattle.collecting.specs.declared.Phase.TheVariants.{Open};
-ghost use Rattle.collecting.specs.Step.{held, state_in, cleared, fresh, collected, unescaped, inside, checked, closed, over, taken, next, shown, stepped, left};
+ghost use Rattle.collecting.specs.Step.{PhaseOf, held, state_in, cleared, fresh, collected, unescaped, inside, checked, closed, over, taken, next, shown, stepped, left};
 ghost use Rattle.collecting.specs.Stream.{after, is_answered, answer_number, message_length, position, run, fed, unflagged};
 ghost use Rattle.collecting.specs.Stretch.{Within, Passed, Leads};
 
-#[derive(Clone, Copy)]
+// Each with the number that it has for C.
+#[derive(Clone, Copy, Debug, PartialEq, Eq, Hash)]
 pub enum Phase {
     // before the first flag
-    LeadIn,
+    LeadIn = 0,
     // between flags
-    Open,
+    Open = 1,
     // 0x7D was the last byte
-    Escape,
+    Escape = 2,
     // answer 1 is met
-    BadEscape,
+    BadEscape = 3,
     // answer 3 is met
-    TooLong,
+    TooLong = 4,
+}
+
+// A number over 4 is no phase's.
+#[derive(Clone, Copy, Debug, PartialEq, Eq, Hash)]
+pub struct UnknownPhase(pub u8);
+
+impl TryFrom<u8> for Phase {
+    type Error = UnknownPhase;
+
+    ghost try_from_gives = { PhaseOf };
+
+    fn try_from(n: u8) -> Result<Self, UnknownPhase> {
+        match n {
+            0 => Ok(Phase::LeadIn),
+            1 => Ok(Phase::Open),
+            2 => Ok(Phase::Escape),
+            3 => Ok(Phase::BadEscape),
+            4 => Ok(Phase::TooLong),
+            _ => Err(UnknownPhase(n)),
+        }
+    }
 }
 
 // What is kept from one byte to the next, beside the room.
-#[derive(Clone, Copy)]
+#[derive(Clone, Copy, Debug, PartialEq, Eq, Hash)]
 pub struct Control {
     // bytes collected
     pub count: usize,
@@ -32,7 +55,9 @@ pub struct Control {
     pub phase: Phase,
 }
 
-#[derive(Clone, Copy)]
+// An enum of its own, with any number in a refusal: a tally takes every answer that a caller makes up (`tallying::raise`), and
+// a narrower type would ask more of callers.
+#[derive(Clone, Copy, Debug, PartialEq, Eq, Hash)]
 pub enum Answer {
     // none yet
     None,
@@ -42,7 +67,8 @@ pub enum Answer {
     Refused(u8, usize),
 }
 
-#[derive(Clone, Copy)]
+// `Stepped`, `Fed` and `Filled` differ in what they say, not in a type: one struct for the three would have fields without meaning.
+#[derive(Clone, Copy, Debug, PartialEq, Eq, Hash)]
 pub struct Stepped {
     pub control: Control,
     pub answer: Answer,
@@ -67,9 +93,8 @@ pub fn step(control: Control, room: &mut [u8; 438], message: &mut [u8; 436], byt
 {
     // a count over 438, or over 878 stuffed bytes, is taken as the fresh state
     if is_over(control) {
-        let control = restarted(byte, room);
         return Stepped {
-            control,
+            control: restarted(byte, room),
             answer: Answer::None,
         };
     }
@@ -123,12 +148,11 @@ fn close(control: Control, room: &[u8; 438], message: &mut [u8; 436]) -> Answer
     requires { control.count ≤ 438 }
     ensures { (result ≡ closed control.phase control.count control.stuffed room.now) × (message.new ≡ shown result room.now message.old) }
 {
-    let n = control.count;
     let at = control.stuffed;
-    let phase = control.phase;
-    match phase {
+    match control.phase {
         Phase::LeadIn => Answer::None,
         Phase::Open => {
+            let n = control.count;
             if n == 0 {
                 return Answer::None;
             }
@@ -167,7 +191,7 @@ fn sequence_of(bytes: &[u8], k: usize) -> u16
 pub fn word(high: u8, low: u8) -> u16
     ensures { result ≡ 256 * high + low }
 {
-    256 * (high as u16) + (low as u16)
+    u16::from_be_bytes([high, low])
 }
 
 // The first k bytes, and zeros behind them.
@@ -175,12 +199,8 @@ fn show(bytes: &[u8], k: usize, message: &mut [u8; 436])
     requires { (k ≤ length bytes.now) × (k ≤ 436) }
     ensures { message.new ≡ take k bytes.now ++ replicate (436 - k) 0 }
 {
-    *message = [0u8; 436];
-    let mut i = 0;
-    while i < k {
-        message[i] = bytes[i];
-        i += 1;
-    }
+    message[..k].copy_from_slice(&bytes[..k]);
+    message[k..].fill(0);
 }
 
 // A byte that is no flag.
@@ -188,52 +208,52 @@ fn inside_frame(control: Control, room: &mut [u8; 438], byte: u8) -> Control
     requires { control.stuffed ≤ 878 }
     ensures { held result room.new ≡ inside control.phase (held control room.old) byte }
 {
-    let n = control.count;
-    let at = control.stuffed;
-    let phase = control.phase;
-    match phase {
+    let taken = Control {
+        stuffed: control.stuffed + 1,
+        ..control
+    };
+    match control.phase {
         Phase::Open => {
             if byte == 0x7D {
                 Control {
-                    count: n,
-                    stuffed: at + 1,
                     phase: Phase::Escape,
+                    ..taken
                 }
             } else {
-                collect(n, at + 1, room, byte)
+                collect(taken, room, byte)
             }
         }
-        Phase::Escape => after_escape(n, at + 1, room, byte),
+        Phase::Escape => after_escape(taken, room, byte),
         _ => control,
     }
 }
 
-// A byte that is no flag, behind 0x7D, with which `at` stuffed bytes are taken.
-fn after_escape(n: usize, at: usize, room: &mut [u8; 438], byte: u8) -> Control
-    ensures { held result room.new ≡ unescaped n at room.old byte }
+// A byte that is no flag, behind 0x7D; it is counted among the stuffed ones.
+fn after_escape(control: Control, room: &mut [u8; 438], byte: u8) -> Control
+    ensures { held result room.new ≡ unescaped control.count control.stuffed room.old byte }
 {
     if (byte == 0x5D) | (byte == 0x5E) {
-        return collect(n, at, room, byte ^ 0x20);
+        return collect(control, room, byte ^ 0x20);
     }
-    clear(Phase::BadEscape, at, room)
+    clear(Phase::BadEscape, control.stuffed, room)
 }
 
-// One collected byte more, behind n others, with which `at` stuffed bytes are taken.
-fn collect(n: usize, at: usize, room: &mut [u8; 438], byte: u8) -> Control
-    ensures { held result room.new ≡ collected n at room.old byte }
+// One collected byte more; its stuffed ones are counted.
+fn collect(control: Control, room: &mut [u8; 438], byte: u8) -> Control
+    ensures { held result room.new ≡ collected control.count control.stuffed room.old byte }
 {
-    if n < 438 {
-        room[n] = byte;
+    if control.count < 438 {
+        room[control.count] = byte;
         return Control {
-            count: n + 1,
-            stuffed: at,
+            count: control.count + 1,
+            stuffed: control.stuffed,
             phase: Phase::Open,
         };
     }
-    clear(Phase::TooLong, at, room)
+    clear(Phase::TooLong, control.stuffed, room)
 }
 
-#[derive(Clone, Copy)]
+#[derive(Clone, Copy, Debug, PartialEq, Eq, Hash)]
 pub struct Fed {
     pub control: Control,
     // how many bytes were taken
@@ -283,12 +303,10 @@ fn through_flag(
     let control = filled.control;
     if n < bytes.len() {
         let s = step(control, room, message, bytes[n]);
-        let behind = s.control;
-        let answer = s.answer;
         return Fed {
-            control: behind,
+            control: s.control,
             taken: n + 1,
-            answer,
+            answer: s.answer,
         };
     }
     Fed {
@@ -298,7 +316,7 @@ fn through_flag(
     }
 }
 
-#[derive(Clone, Copy)]
+#[derive(Clone, Copy, Debug, PartialEq, Eq, Hash)]
 pub struct Filled {
     pub control: Control,
     // how many bytes were taken
@@ -368,16 +386,13 @@ fn stretch(control: Control, room: &mut [u8; 438], bytes: &[u8]) -> Filled
     ensures within { Within result.control }
     ensures passed { Passed (held control room.old) bytes.now result.taken (held result.control room.new) }
 {
-    let n = control.count;
-    let at = control.stuffed;
-    let phase = control.phase;
-    match phase {
+    match control.phase {
         Phase::Open => {
-            let k = plain(n, at, room, bytes);
+            let k = plain(control, room, bytes);
             Filled {
                 control: Control {
-                    count: n + k,
-                    stuffed: at + k,
+                    count: control.count + k,
+                    stuffed: control.stuffed + k,
                     phase: Phase::Open,
                 },
                 taken: k,
@@ -395,53 +410,38 @@ fn stretch(control: Control, room: &mut [u8; 438], bytes: &[u8]) -> Filled
 pub fn before_flag(bytes: &[u8]) -> usize
     ensures { result ≡ unflagged bytes.now }
 {
-    let mut i = 0;
-    while i < bytes.len() {
-        if bytes[i] == 0x7E {
-            return i;
-        }
-        i += 1;
-    }
-    i
+    first_flag(bytes).unwrap_or(bytes.len())
 }
 
-// The bytes that are neither flag nor escape, behind n others and `at` stuffed ones, as many as stand in a row
-// and have room, up to 878 stuffed ones: how many.
-fn plain(n: usize, at: usize, room: &mut [u8; 438], bytes: &[u8]) -> usize
-    requires { (n ≤ 438) × (at ≤ 878) }
-    ensures result_bound { (n + result ≤ 438) × (at + result ≤ 878) }
-    ensures passed { Passed (state_in Open n at room.old) bytes.now result (state_in Open (n + result) (at + result) room.new) }
+// Where the first flag stands.
+fn first_flag(bytes: &[u8]) -> Option<usize>
+    ensures { result ≡ first_place (λ b. b == 0x7E) bytes.now }
 {
-    let end = least(least(438 - n, 878 - at), bytes.len());
-    let mut i = 0;
-    while i < end {
-        let sent = bytes[i];
-        if sent == 0x7D {
-            return i;
-        }
-        if sent == 0x7E {
-            return i;
-        }
-        room[n + i] = sent;
-        i += 1;
-    }
-    i
+    bytes.iter().position(|byte| *byte == 0x7E)
 }
 
-fn least(a: usize, b: usize) -> usize
-    ensures { result ≡ min a b }
+// The bytes that are neither flag nor escape, as many as stand in a row and have room, up to 878 stuffed ones: how many.
+fn plain(control: Control, room: &mut [u8; 438], bytes: &[u8]) -> usize
+    requires { Within control }
+    ensures result_bound { (control.count + result ≤ 438) × (control.stuffed + result ≤ 878) }
+    ensures passed { Passed (state_in Open control.count control.stuffed room.old) bytes.now result (state_in Open (control.count + result) (control.stuffed + result) room.new) }
 {
-    if a < b { a } else { b }
+    let n = control.count;
+    let end = (438 - n).min(878 - control.stuffed).min(bytes.len());
+    // counted and copied by `copy_from_slice`, which goes through them twice, a recording took a tenth longer
+    for (i, byte) in bytes[..end].iter().enumerate() {
+        if *byte == 0x7D || *byte == 0x7E {
+            return i;
+        }
+        room[n + i] = *byte;
+    }
+    end
 }
 
 pub fn is_answered(answer: Answer) -> bool
     ensures { result ≡ is_answered answer }
 {
-    match answer {
-        Answer::None => false,
-        Answer::Accepted(_) => true,
-        Answer::Refused(_, _) => true,
-    }
+    !matches!(answer, Answer::None)
 }
 
 // The number, the message's length and the position of an answer, 0 where there is none.
@@ -449,9 +449,8 @@ pub fn answer_number(answer: Answer) -> u8
     ensures { result ≡ answer_number answer }
 {
     match answer {
-        Answer::None => 0,
-        Answer::Accepted(_) => 0,
         Answer::Refused(n, _) => n,
+        _ => 0,
     }
 }
 
@@ -459,9 +458,8 @@ pub fn message_length(answer: Answer) -> usize
     ensures { result ≡ message_length answer }
 {
     match answer {
-        Answer::None => 0,
         Answer::Accepted(k) => k,
-        Answer::Refused(_, _) => 0,
+        _ => 0,
     }
 }
 
@@ -469,9 +467,8 @@ pub fn position(answer: Answer) -> usize
     ensures { result ≡ position answer }
 {
     match answer {
-        Answer::None => 0,
-        Answer::Accepted(_) => 0,
         Answer::Refused(_, at) => at,
+        _ => 0,
     }
 }
 
@@ -494,9 +491,8 @@ impl Collector {
     pub fn fresh() -> Self
         ensures { result ≡ fresh }
     {
-        let control = Control::fresh();
         Self {
-            control,
+            control: Control::fresh(),
             room: [0u8; 438],
         }
     }
@@ -504,19 +500,15 @@ impl Collector {
     pub fn step(self, byte: u8) -> Collected
         ensures { result ≡ stepped self (replicate 436 0) byte }
     {
-        let control = self.control;
         let mut room = self.room;
         let mut message = [0u8; 436];
-        let s = step(control, &mut room, &mut message, byte);
-        let after = s.control;
-        let state = Collector {
-            control: after,
-            room,
-        };
-        let answer = s.answer;
+        let s = step(self.control, &mut room, &mut message, byte);
         Collected {
-            state,
-            answer,
+            state: Collector {
+                control: s.control,
+                room,
+            },
+            answer: s.answer,
             message,
         }
     }

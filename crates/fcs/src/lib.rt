@@ -1,32 +1,32 @@
 // The frame check sequence (001 §2.2.3), from 16 words (RULES 'Check sequence').
 #![tactic(auto)]
 
-ghost use Rattle.std.specs.Prelude.{◌≡◌, ◌%◌, length, take};
+ghost use Rattle.std.specs.Prelude.{◌≡◌, ◌%◌, ◌≤◌, length};
 ghost use Rattle.fcs.specs.Fcs.{fcs};
 ghost use Rattle.fcs.specs.Words.{word_of, by_halves};
 
 // The check sequence of a message: from zero, over the message's bits and no more. Two bytes a turn; the first
-// of an odd number of bytes stands by itself.
+// of an odd number of bytes stands by itself: it is its own sequence.
 pub fn check_sequence(message: &[u8]) -> u16
     ensures { result ≡ fcs message.now }
 {
-    let mut r = unpaired_byte(message);
-    let mut i = message.len() % 2;
-    while i < message.len() {
-        r = with_pair(r, message[i], message[i + 1]);
-        i += 2;
+    let (unpaired, pairs) = message.as_rchunks::<2>();
+    let mut r = unpaired_byte(unpaired);
+    for pair in pairs {
+        r = with_pair(r, pair[0], pair[1]);
     }
     r
 }
 
-// The first of an odd number of bytes: one byte is its own sequence.
-fn unpaired_byte(message: &[u8]) -> u16
-    ensures { result ≡ fcs (take (length message.now % 2) message.now) }
+// No byte, or one, which is its own sequence.
+fn unpaired_byte(unpaired: &[u8]) -> u16
+    requires { length unpaired.now ≤ 1 }
+    ensures { result ≡ fcs unpaired.now }
 {
-    if message.len() % 2 == 0 {
-        return 0;
+    match unpaired {
+        [byte, ..] => *byte as u16,
+        [] => 0,
     }
-    message[0] as u16
 }
 
 // Two bytes more of the division: four half bytes leave above, and each comes back below as its word. They are the

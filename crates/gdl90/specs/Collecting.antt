@@ -1,6 +1,6 @@
 -- What framing and collecting answer, as C has it (RULES 'Structs for C').
 -- Assumes nothing.
-use Rattle.std.specs.Prelude.{◌≡◌, ℕ, cond, List, eqb, leb, length, Result}
+use Rattle.std.specs.Prelude.{◌≡◌, ℕ, cond, List, Result, eqb, leb, length}
 use Rattle.refusals.specs.declared.Refusal.{Refusal}
 use Rattle.framing.specs.Framing.{framed_number, framed_size}
 use Rattle.collecting.specs.declared.Phase.{Phase}
@@ -9,9 +9,9 @@ use Rattle.collecting.specs.declared.Control.{Control}
 use Rattle.collecting.specs.declared.Answer.{Answer}
 use Rattle.collecting.specs.declared.Answer.TheVariants.{None, Accepted, Refused}
 use Rattle.collecting.specs.declared.Fed.{Fed}
-use Rattle.collecting.specs.Step.{held}
+use Rattle.collecting.specs.Step.{phase_number, held}
 use Rattle.collecting.specs.Stream.{is_answered, answer_number, message_length, position, Run, run}
-use Rattle.recording.specs.declared.Recorded.{Recorded}
+use Rattle.refusals.specs.declared.Refusal.{Refusal}
 use Rattle.recording.specs.Recording.{recorded, recorded_number, recorded_entries, ReadRecording}
 use Rattle.gdl90.specs.declared.FrameAnswer.{FrameAnswer}
 use Rattle.gdl90.specs.declared.FeedControl.{FeedControl}
@@ -21,13 +21,6 @@ use Rattle.gdl90.specs.declared.RecordingAnswer.{RecordingAnswer}
 -- the number, and the bytes written, 0 with a refusal
 abbrev pub frame_answer : Result ℕ Refusal → FrameAnswer
 frame_answer f = record { number = framed_number f; length = framed_size f }
-
-abbrev pub phase_number : Phase → ℕ
-phase_number LeadIn = 0
-phase_number Open = 1
-phase_number Escape = 2
-phase_number BadEscape = 3
-phase_number TooLong = 4
 
 unfoldable pub phase_of : ℕ → Phase
 phase_of n = cond (eqb n 0) LeadIn (cond (eqb n 1) Open (cond (eqb n 2) Escape (cond (eqb n 3) BadEscape TooLong)))
@@ -64,7 +57,7 @@ unfoldable pub answer_in : FeedAnswer → Answer
 answer_in f = cond f.answered (cond (eqb f.number 0) (Accepted f.length) (Refused f.number f.position)) None
 
 -- the number, and how many entries a recording has, 0 with a refusal
-abbrev pub recording_answer : Recorded → RecordingAnswer
+abbrev pub recording_answer : Result ℕ Refusal → RecordingAnswer
 recording_answer r = record { number = recorded_number r; entries = recorded_entries r }
 
 -- what C has of reading a recording: the answer, and what the list and the memory for messages hold then

@@ -1,13 +1,14 @@
 -- The answer in degrees, as C has it (RULES 'Structs for C'): the number, and the values, 0 with a refusal.
 -- Assumes nothing.
-use Rattle.std.specs.Prelude.{◌≡◌, ℤ}
+use Rattle.std.specs.Prelude.{◌≡◌, ℤ, Result}
 use Rattle.std.specs.Float.{binary64}
 use Rattle.std.specs.Float.Ieee.{to_bits}
-use Rattle.units.specs.declared.InDegrees.{InDegrees}
+use Rattle.refusals.specs.declared.Refusal.{Refusal}
+use Rattle.units.specs.declared.Degrees.{Degrees}
 use Rattle.units.specs.Degrees.{Exactly, degrees_number, degrees_of}
 use Rattle.gdl90.specs.declared.DegreesAnswer.{DegreesAnswer}
 
-abbrev pub degrees_answer : InDegrees → DegreesAnswer
+abbrev pub degrees_answer : Result Degrees Refusal → DegreesAnswer
 degrees_answer d = record { number = degrees_number d; latitude = (degrees_of d).latitude; longitude = (degrees_of d).longitude }
 
 -- with number 0 both floats are exact

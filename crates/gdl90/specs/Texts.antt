@@ -1,15 +1,16 @@
 -- What reading and writing a weather text answer, as C has it (RULES 'Structs for C'): the number, and the values, 0 with a refusal.
 -- Assumes nothing.
-use Rattle.std.specs.Prelude.{◌≡◌, ℕ, List, length}
+use Rattle.std.specs.Prelude.{◌≡◌, ℕ, List, Result, length}
 use Rattle.numbers.specs.Lent.{written}
-use Rattle.generic_text.specs.declared.TextReading.{TextReading}
+use Rattle.refusals.specs.declared.Refusal.{Refusal}
+use Rattle.generic_text.specs.declared.Text as read
 use Rattle.generic_text.specs.Product.{Text, decode, encode}
 use Rattle.generic_text.specs.Answers.{text_reading, read_number, read_hours, read_minutes, read_padding, read_length, read_output, text_writing}
 use Rattle.gdl90.specs.declared.TextAnswer.{TextAnswer}
 use Rattle.gdl90.specs.declared.WriteAnswer.{WriteAnswer}
 use Rattle.gdl90.specs.Messages.{AnsweredBy}
 
-abbrev pub text_answer : TextReading → TextAnswer
+abbrev pub text_answer : Result read.Text Refusal → TextAnswer
 text_answer r = record { number = read_number r; hours = read_hours r; minutes = read_minutes r; padding = read_padding r; length = read_length r }
 
 pub record ReadsText (apdu out : List ℕ) (answer : TextAnswer) (left : List ℕ) : Type 0 where

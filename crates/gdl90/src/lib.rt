@@ -5,22 +5,21 @@ ghost use Rattle.std.specs.Prelude.{◌≡◌, length, Err};
 ghost use Rattle.numbers.specs.Lent.{written};
 ghost use Rattle.fcs.specs.Fcs.{fcs};
 ghost use Rattle.framing.specs.Framing.{framing, framed_output};
-ghost use Rattle.collecting.specs.Stream.{answer_number, message_length, position};
 ghost use Rattle.tallying.specs.Tally.{tallied};
 ghost use Rattle.heartbeat.specs.Heartbeat.{heartbeat_read};
 ghost use Rattle.initialization.specs.Initialization.{initialization_read};
+ghost use Rattle.c_report.specs.Answers.{report_answer};
 ghost use Rattle.report.specs.Reading.{report_read, ownship_read, traffic_read};
-ghost use Rattle.gdl90.specs.Messages.{report_answer, kind_answer, uplink_answer, height_answer, geometric_answer, write_answer};
+ghost use Rattle.gdl90.specs.Messages.{kind_answer, uplink_answer, height_answer, geometric_answer, write_answer};
 ghost use Rattle.gdl90.specs.Messages.{WritesHeartbeat, WritesInitialization, WritesUplink, WritesHeight, WritesReport, WritesOwnship, WritesGeometric, WritesTraffic};
 ghost use Rattle.messages.specs.Message.{kind_number};
 ghost use Rattle.information_frames.specs.Walk.{payload_frames};
 ghost use Rattle.information_frames.specs.Answers.{frame_list, nth_frame};
 ghost use Rattle.information_frames.specs.Adding.{adding, added_number, payload_after};
-ghost use Rattle.gdl90.specs.Collecting.{frame_answer, phase_number, phase_of, control_of, feed_answer, feeding, Feeds, answer_in, recording_answer, ReadsRecording};
+ghost use Rattle.gdl90.specs.Collecting.{frame_answer, control_of, feed_answer, feeding, Feeds, answer_in, recording_answer, ReadsRecording};
 ghost use Rattle.units.specs.Degrees.{in_degrees};
 ghost use Rattle.units.specs.Feet.{pressure_feet, geometric_feet, terrain_feet};
 ghost use Rattle.gdl90.specs.Payload.{payload_list_answer, payload_nth_answer};
-ghost use Rattle.information_frames.specs.declared.Found.TheVariants.{Refused};
 ghost use Rattle.generic_text.specs.Product.{text_with};
 ghost use Rattle.gdl90.specs.Texts.{text_answer, ReadsText, WritesText};
 ghost use Rattle.gdl90.specs.Degrees.{degrees_answer, ExactAnswer};
@@ -30,16 +29,14 @@ use c_structs::{
     FlatGeometric, FlatGeometricRead, FlatHeight, FlatHeightRead, FlatUplink, FlatUplinkRead,
 };
 use collecting::{Answer, Control, Fed, Phase};
-use generic_text::TextReading;
-use information_frames::{Added, Found, FrameList};
+use generic_text::Text;
 use message_types::{
     Heartbeat, HeartbeatRead, Initialization, InitializationRead, Ownship, Traffic,
 };
 use messages::Kind;
-use recording::Recorded;
 use refusals::Refusal;
 use tallying::Tally;
-use units::{GeometricSteps, InDegrees, PressureSteps, TerrainFeet};
+use units::{GeometricSteps, PressureSteps, TerrainFeet};
 
 // 001 Table 9.
 const LAST_TRACK_KIND: u8 = 3;
@@ -72,7 +69,10 @@ fn frame_answer(framed: Result<usize, Refusal>) -> FrameAnswer
 {
     match framed {
         Ok(length) => FrameAnswer { number: 0, length },
-        Err(refusal) => FrameAnswer { number: refusal.number(), length: 0 },
+        Err(refusal) => {
+            let number = refusal.number();
+            FrameAnswer { number, length: 0 }
+        }
     }
 }
 
@@ -148,21 +148,19 @@ fn answer_in(fed: FeedAnswer) -> Answer
 fn feed_answer(fed: Fed) -> FeedAnswer
     ensures { result ≡ feed_answer fed }
 {
-    let control = fed.control;
-    let phase = control.phase;
     let control = FeedControl {
-        count: control.count,
-        stuffed: control.stuffed,
-        phase: phase_number(phase),
+        count: fed.control.count,
+        stuffed: fed.control.stuffed,
+        phase: fed.control.phase as u8,
     };
     let answer = fed.answer;
     FeedAnswer {
         control,
         taken: fed.taken,
         answered: collecting::is_answered(answer),
-        number: answer_number(answer),
-        length: message_length(answer),
-        position: position(answer),
+        number: collecting::answer_number(answer),
+        length: collecting::message_length(answer),
+        position: collecting::position(answer),
     }
 }
 
@@ -170,77 +168,17 @@ fn feed_answer(fed: Fed) -> FeedAnswer
 fn control_of(control: FeedControl) -> Control
     ensures { result ≡ control_of control }
 {
-    if control.phase <= 4 {
+    let Ok(phase) = Phase::try_from(control.phase) else {
         return Control {
-            count: control.count,
-            stuffed: control.stuffed,
-            phase: phase_of(control.phase),
+            count: 439,
+            stuffed: 0,
+            phase: Phase::LeadIn,
         };
-    }
+    };
     Control {
-        count: 439,
-        stuffed: 0,
-        phase: Phase::LeadIn,
-    }
-}
-
-fn phase_of(n: u8) -> Phase
-    ensures { result ≡ phase_of n }
-{
-    if n == 0 {
-        return Phase::LeadIn;
-    }
-    if n == 1 {
-        return Phase::Open;
-    }
-    if n == 2 {
-        return Phase::Escape;
-    }
-    if n == 3 {
-        return Phase::BadEscape;
-    }
-    Phase::TooLong
-}
-
-fn phase_number(phase: Phase) -> u8
-    ensures { result ≡ phase_number phase }
-{
-    match phase {
-        Phase::LeadIn => 0,
-        Phase::Open => 1,
-        Phase::Escape => 2,
-        Phase::BadEscape => 3,
-        Phase::TooLong => 4,
-    }
-}
-
-fn answer_number(answer: Answer) -> u8
-    ensures { result ≡ answer_number answer }
-{
-    match answer {
-        Answer::None => 0,
-        Answer::Accepted(_) => 0,
-        Answer::Refused(n, _) => n,
-    }
-}
-
-fn message_length(answer: Answer) -> usize
-    ensures { result ≡ message_length answer }
-{
-    match answer {
-        Answer::None => 0,
-        Answer::Accepted(k) => k,
-        Answer::Refused(_, _) => 0,
-    }
-}
-
-fn position(answer: Answer) -> usize
-    ensures { result ≡ position answer }
-{
-    match answer {
-        Answer::None => 0,
-        Answer::Accepted(_) => 0,
-        Answer::Refused(_, at) => at,
+        count: control.count,
+        stuffed: control.stuffed,
+        phase,
     }
 }
 
@@ -264,12 +202,15 @@ pub fn gdl90_read_recording(
     recording_answer(recorded)
 }
 
-fn recording_answer(recorded: Recorded) -> RecordingAnswer
+fn recording_answer(recorded: Result<usize, Refusal>) -> RecordingAnswer
     ensures { result ≡ recording_answer recorded }
 {
     match recorded {
-        Recorded::Entries(entries) => RecordingAnswer { number: 0, entries },
-        Recorded::Refused(number) => RecordingAnswer { number, entries: 0 },
+        Ok(entries) => RecordingAnswer { number: 0, entries },
+        Err(refusal) => RecordingAnswer {
+            number: refusal.number(),
+            entries: 0,
+        },
     }
 }
 
@@ -487,13 +428,13 @@ pub fn gdl90_payload_list(payload: &[u8]) -> PayloadListAnswer
     ensures { result ≡ payload_list_answer (frame_list (payload_frames payload.now)) }
 {
     match information_frames::list(payload) {
-        FrameList::Frames { count, end } => PayloadListAnswer {
+        Ok(list) => PayloadListAnswer {
             number: 0,
-            count,
-            end,
+            count: list.count,
+            end: list.end,
         },
-        FrameList::Refused(number) => PayloadListAnswer {
-            number,
+        Err(refusal) => PayloadListAnswer {
+            number: refusal.number(),
             count: 0,
             end: 0,
         },
@@ -516,22 +457,22 @@ pub fn gdl90_payload_nth(payload: &[u8], n: usize) -> PayloadNthAnswer
     ensures { result ≡ payload_nth_answer (nth_frame (payload_frames payload.now) n) }
 {
     match information_frames::nth(payload, n) {
-        Found::Frame(f) => PayloadNthAnswer {
+        Ok(f) => PayloadNthAnswer {
             number: 0,
             kind: f.kind,
             reserved: f.reserved,
             start: f.at + 10,
             length: f.length,
         },
-        Found::Refused(k) => no_frame(k),
+        Err(refusal) => no_frame(refusal),
     }
 }
 
-fn no_frame(number: u8) -> PayloadNthAnswer
-    ensures { result ≡ payload_nth_answer (Refused number) }
+fn no_frame(refusal: Refusal) -> PayloadNthAnswer
+    ensures { result ≡ payload_nth_answer (Err refusal) }
 {
     PayloadNthAnswer {
-        number,
+        number: refusal.number(),
         kind: 0,
         reserved: 0,
         start: 0,
@@ -545,8 +486,8 @@ pub fn gdl90_payload_add(payload: &mut [u8], kind: u8, bytes: &[u8]) -> u8
     ensures payload { payload.new ≡ payload_after (adding (payload_frames payload.old) kind (length bytes.now)) payload.old kind bytes.now }
 {
     match information_frames::add(payload, kind, bytes) {
-        Added::Done => 0,
-        Added::Refused(k) => k,
+        Ok(()) => 0,
+        Err(refusal) => refusal.number(),
     }
 }
 
@@ -569,24 +510,19 @@ pub fn gdl90_read_text(apdu: &[u8], out: &mut [u8]) -> TextAnswer
     text_answer(reading)
 }
 
-fn text_answer(reading: TextReading) -> TextAnswer
+fn text_answer(reading: Result<Text, Refusal>) -> TextAnswer
     ensures { result ≡ text_answer reading }
 {
     match reading {
-        TextReading::Text {
-            hours,
-            minutes,
-            padding,
-            length,
-        } => TextAnswer {
+        Ok(text) => TextAnswer {
             number: 0,
-            hours,
-            minutes,
-            padding,
-            length,
+            hours: text.hours,
+            minutes: text.minutes,
+            padding: text.padding,
+            length: text.length,
         },
-        TextReading::Refused(number) => TextAnswer {
-            number,
+        Err(refusal) => TextAnswer {
+            number: refusal.number(),
             hours: 0,
             minutes: 0,
             padding: 0,
@@ -643,13 +579,13 @@ pub fn gdl90_degrees(latitude: i32, longitude: i32) -> DegreesAnswer
     ensures exact { ExactAnswer latitude longitude result }
 {
     match units::in_degrees(latitude, longitude) {
-        InDegrees::At(d) => DegreesAnswer {
+        Ok(d) => DegreesAnswer {
             number: 0,
             latitude: d.latitude,
             longitude: d.longitude,
         },
-        InDegrees::Refused(number) => DegreesAnswer {
-            number,
+        Err(refusal) => DegreesAnswer {
+            number: refusal.number(),
             latitude: 0.0,
             longitude: 0.0,
         },

@@ -2,30 +2,23 @@
 -- Assumes nothing.
 use mathlib.Core.Path.{◌≡◌, refl, sym, ap, ap₂, ◌∙◌}
 use Prim.Native.Nat.{ℕ, suc, ◌+◌, ◌-◌, ◌*◌, ◌/◌, ◌%◌, ◌≤◌, ◌<◌}
+use mathlib.Core.Bool.{true}
 use mathlib.Core.List.{List, [], ◌∷◌, ◌++◌, append_assoc, map}
 use native.Mathlib.Omega.{arith}
-use native.Mathlib.Numerals.{add-one}
-use lib.ListN.{length, get_or, drop, replicate, length-append, length-map, length-replicate, drop_of_length-le}
-use lib.Seq.{drop-cons}
+use lib.ListN.{length, get_or, take, drop, replicate, length-append, length-map, length-replicate}
+use lib.Seq.{take_all}
 use Rattle.numbers.specs.Bits.{bit}
 use Rattle.numbers.specs.Lent.{Stored}
 use Rattle.numbers.specs.Packing.{bits_of, bits_in, gather, numbers_in}
-use Rattle.numbers.proofs.Bytes.{drop-three}
 use Rattle.numbers.proofs.Packing.{next_number, length-bits_in, bits_in-append, bits_more, groups_first}
 use Rattle.numbers.proofs.Storing.{then}
-use Rattle.characters.specs.Characters.{code_of}
+use Rattle.characters.specs.Characters.{code_of, are_listed}
+use Rattle.characters.proofs.Listed.{listed_both}
 use Rattle.characters.proofs.Inverse.{code_lt}
 use Rattle.generic_text.specs.Product.{header_of, code_bytes, closed_bytes, encode}
-use Rattle.generic_text.specs.Putting.{codes_behind, three_of, PutFours}
+use Rattle.generic_text.specs.Putting.{three_of}
 use Rattle.generic_text.specs.Claims.{Size}
 use Rattle.generic_text.proofs.Rewriting.{packed_filled}
-
-pub none_left : (text : List ℕ) (i : ℕ) → length text ≤ i → codes_behind text i ≡ 0 ∷ []
-none_left text i h = rw (drop_of_length-le text h)
-
--- one less, whose code is r
-one_less : (text : List ℕ) (i r : ℕ) → i < length text → r ≡ code_of (get_or text i 0) → codes_behind text i ≡ r ∷ codes_behind text (i + 1)
-one_less text i r h e = rw (add-one, drop-cons text i 0 h, e)
 
 -- four codes fill three bytes
 four_bits : (a b c d : ℕ) (rest : List ℕ) → a < 64 → b < 64 → c < 64 → d < 64
@@ -51,77 +44,110 @@ pub small : (r k : ℕ) → r ≡ code_of k → r < 64
 small r k e = omega (arith, code_lt k)
 
 -- the last codes, the closing one and zero bits up to the byte's end
-module _ (text : List ℕ) (i : ℕ) where
-  pub last_none : length text ≤ i → code_bytes (codes_behind text i) ≡ 0 ∷ []
+pub last_none : closed_bytes [] ≡ 0 ∷ []
+unfolding code_bytes bits_in bits_of bit numbers_in gather
+last_none = refl
+
+module _ (x a : ℕ) (ea : a ≡ code_of x) where
+  pub last_one : closed_bytes (x ∷ []) ≡ a * 4 ∷ 0 ∷ []
   unfolding code_bytes bits_in bits_of bit numbers_in gather
-  last_none h = ap code_bytes (none_left text i h)
+  last_one =
+      let k = small a _ ea in
+      let byte : (a * 64 + 0) / 16 % 256 ≡ a * 4 = omega arith in
+      ap (λ (n : ℕ). code_bytes (n ∷ 0 ∷ [])) (sym ea)
+      ∙ next_number 7 6 4 6 a 0 (replicate 7 0) refl (omega arith) (omega arith)
+      ∙ ap (λ (n : ℕ). n ∷ 0 ∷ []) byte
 
-  module _ (a : ℕ) (ea : a ≡ code_of (get_or text i 0)) where
-    pub last_one : i + 1 ≡ length text → code_bytes (codes_behind text i) ≡ a * 4 ∷ 0 ∷ []
+  module _ (y b : ℕ) (eb : b ≡ code_of y) where
+    pub last_two : closed_bytes (x ∷ y ∷ []) ≡ three_of a b 0 0
     unfolding code_bytes bits_in bits_of bit numbers_in gather
-    last_one h =
-        let k = small a _ ea in
-        let byte : (a * 64 + 0) / 16 % 256 ≡ a * 4 = omega arith in
-        ap code_bytes (one_less text i a (omega arith) ea ∙ ap (λ (l : List ℕ). a ∷ l) (none_left text (i + 1) (omega arith)))
-        ∙ next_number 7 6 4 6 a 0 (replicate 7 0) refl (omega arith) (omega arith)
-        ∙ ap (λ (x : ℕ). x ∷ 0 ∷ []) byte
+    last_two =
+        ap₂ (λ (m n : ℕ). code_bytes (m ∷ n ∷ 0 ∷ [])) (sym ea) (sym eb)
+        ∙ four_bits a b 0 0 (0 ∷ []) (small a _ ea) (small b _ eb) (omega arith) (omega arith)
 
-    module _ (b : ℕ) (eb : b ≡ code_of (get_or text (i + 1) 0)) where
-      two : i + 2 ≤ length text → codes_behind text i ≡ a ∷ b ∷ codes_behind text (i + 2)
-      two h =
-          let next : i + 1 + 1 ≡ i + 2 = omega arith in
-          one_less text i a (omega arith) ea
-          ∙ ap (λ (l : List ℕ). a ∷ l) (one_less text (i + 1) b (omega arith) eb ∙ ap (λ (n : ℕ). b ∷ codes_behind text n) next)
-
-      pub last_two : i + 2 ≡ length text → code_bytes (codes_behind text i) ≡ three_of a b 0 0
+    module _ (z c : ℕ) (ec : c ≡ code_of z) where
+      pub last_three : closed_bytes (x ∷ y ∷ z ∷ []) ≡ three_of a b c 0
       unfolding code_bytes bits_in bits_of bit numbers_in gather
-      last_two h =
-          ap code_bytes (two (omega arith) ∙ ap (λ (l : List ℕ). a ∷ b ∷ l) (none_left text (i + 2) (omega arith)))
-          ∙ four_bits a b 0 0 (0 ∷ []) (small a _ ea) (small b _ eb) (omega arith) (omega arith)
-
-      pub last_three : (c : ℕ) → c ≡ code_of (get_or text (i + 2) 0) → i + 3 ≡ length text → code_bytes (codes_behind text i) ≡ three_of a b c 0
-      unfolding code_bytes bits_in bits_of bit numbers_in gather
-      last_three c ec h =
-          ap code_bytes (two (omega arith) ∙ ap (λ (l : List ℕ). a ∷ b ∷ l) (one_less text (i + 2) c (omega arith) ec ∙ ap (λ (l : List ℕ). c ∷ l) (none_left text (i + 2 + 1) (omega arith))))
+      last_three =
+          ap₂ (λ (m n : ℕ). code_bytes (m ∷ n ∷ code_of z ∷ 0 ∷ [])) (sym ea) (sym eb)
+          ∙ ap (λ (n : ℕ). code_bytes (a ∷ b ∷ n ∷ 0 ∷ [])) (sym ec)
           ∙ four_bits a b c 0 (replicate 7 0) (small a _ ea) (small b _ eb) (small c _ ec) (omega arith)
 
-module _ {out text : List ℕ} where
-  module _ {mid : List ℕ} {i at : ℕ} (p : PutFours out text i at mid) (h : i + 4 ≤ length text) where
-    abbrev code : ℕ → ℕ
-    code k = code_of (get_or text (i + k) 0)
+      -- four codes more
+      pub next_four : (w d : ℕ) (rest : List ℕ) → d ≡ code_of w → closed_bytes (x ∷ y ∷ z ∷ w ∷ rest) ≡ three_of a b c d ++ closed_bytes rest
+      next_four w d rest ed =
+          ap₂ (λ (m n : ℕ). code_bytes (m ∷ n ∷ code_of z ∷ code_of w ∷ map code_of rest ++ (0 ∷ []))) (sym ea) (sym eb)
+          ∙ ap₂ (λ (m n : ℕ). code_bytes (a ∷ b ∷ m ∷ n ∷ map code_of rest ++ (0 ∷ []))) (sym ec) (sym ed)
+          ∙ four_filled a b c d (map code_of rest ++ (0 ∷ [])) (small a _ ea) (small b _ eb) (small c _ ec) (small d _ ed)
 
-    next_four : codes_behind text i ≡ code_of (get_or text i 0) ∷ code 1 ∷ code 2 ∷ code 3 ∷ codes_behind text (i + 4)
-    next_four =
-        let four : suc (i + 3) ≡ i + 4 = omega arith in
-        ap (λ (l : List ℕ). map code_of l ++ (0 ∷ []))
-        (drop-three text i (omega arith)
-        ∙ ap (λ (l : List ℕ). get_or text i 0 ∷ get_or text (i + 1) 0 ∷ get_or text (i + 2) 0 ∷ l)
-        (drop-cons text (i + 3) 0 (omega arith) ∙ ap (λ (n : ℕ). get_or text (i + 3) 0 ∷ drop n text) four))
+-- of so many characters
+pub of_none : (l : List ℕ) → length l ≡ 0 → closed_bytes l ≡ 0 ∷ []
+of_none [] h = last_none
+of_none (x ∷ l) h = absurd (omega arith)
 
-    left : closed_bytes text ≡ p.bytes ++ (three_of (code_of (get_or text i 0)) (code 1) (code 2) (code 3) ++ code_bytes (codes_behind text (i + 4)))
-    left =
-        p.rest
-        ∙ ap (λ (l : List ℕ). p.bytes ++ l)
-        (ap code_bytes next_four
-        ∙ four_filled (code_of (get_or text i 0)) (code 1) (code 2) (code 3) (codes_behind text (i + 4)) (code_lt _) (code_lt _) (code_lt _) (code_lt _))
+pub of_one : (l : List ℕ) → length l ≡ 1 → (a : ℕ) → a ≡ code_of (get_or l 0 0) → closed_bytes l ≡ a * 4 ∷ 0 ∷ []
+of_one [] h a ea = absurd (omega arith)
+of_one (x ∷ []) h a ea = last_one x a ea
+of_one (x ∷ y ∷ l) h a ea = absurd (omega arith)
 
-    pub fours_room : 4 + length (closed_bytes text) ≤ length out → at + 3 ≤ length out
-    fours_room r = omega (arith, p.stored.ends, ap length left, length-append p.bytes (three_of (code_of (get_or text i 0)) (code 1) (code 2) (code 3) ++ code_bytes (codes_behind text (i + 4))))
+pub of_two : (l : List ℕ) → length l ≡ 2 → (a b : ℕ) → a ≡ code_of (get_or l 0 0) → b ≡ code_of (get_or l 1 0) → closed_bytes l ≡ three_of a b 0 0
+of_two [] h a b ea eb = absurd (omega arith)
+of_two (x ∷ []) h a b ea eb = absurd (omega arith)
+of_two (x ∷ y ∷ []) h a b ea eb = last_two x a ea y b eb
+of_two (x ∷ y ∷ z ∷ l) h a b ea eb = absurd (omega arith)
 
-    pub fours_more : {next : ℕ} {after : List ℕ} → Stored mid at (three_of (code_of (get_or text i 0)) (code 1) (code 2) (code 3)) next after → PutFours out text (i + 4) next after
-    fours_more s = record {
-      bytes = p.bytes ++ three_of (code_of (get_or text i 0)) (code 1) (code 2) (code 3);
-      stored = then p.stored s;
-      rest = left ∙ sym (append_assoc p.bytes (three_of (code_of (get_or text i 0)) (code 1) (code 2) (code 3)) (code_bytes (codes_behind text (i + 4))));
-    }
+pub of_three : (l : List ℕ) → length l ≡ 3 → (a b c : ℕ) → a ≡ code_of (get_or l 0 0) → b ≡ code_of (get_or l 1 0) → c ≡ code_of (get_or l 2 0) → closed_bytes l ≡ three_of a b c 0
+of_three [] h a b c ea eb ec = absurd (omega arith)
+of_three (x ∷ []) h a b c ea eb ec = absurd (omega arith)
+of_three (x ∷ y ∷ []) h a b c ea eb ec = absurd (omega arith)
+of_three (x ∷ y ∷ z ∷ []) h a b c ea eb ec = last_three x a ea y b eb z c ec
+of_three (x ∷ y ∷ z ∷ w ∷ l) h a b c ea eb ec = absurd (omega arith)
 
--- and what is left behind them
-module _ {out text mid : List ℕ} {i at : ℕ} (p : PutFours out text i at mid) where
-  pub last_room : (size : ℕ) → 4 + length (closed_bytes text) ≤ size → at + length (code_bytes (codes_behind text i)) ≤ size
-  last_room size h = omega (arith, p.stored.ends, ap length p.rest, length-append p.bytes (code_bytes (codes_behind text i)))
+-- some bytes of a text were stored, and those of the characters that are left are next
+pub record PutFours (out text left : List ℕ) (at : ℕ) (mid : List ℕ) : Type 0 where
+  pub bytes : List ℕ
+  pub stored : Stored out 4 bytes at mid
+  pub rest : closed_bytes text ≡ bytes ++ closed_bytes left
+  pub listed : are_listed left ≡ true
 
-  pub all_put : {next : ℕ} {after : List ℕ} → Stored mid at (code_bytes (codes_behind text i)) next after → Stored out 4 (closed_bytes text) next after
+pub fours_start : (out text : List ℕ) → are_listed text ≡ true → PutFours out text text 4 out
+fours_start out text h = record { bytes = []; stored = record { ends = refl; leaves = refl }; rest = refl; listed = h }
+
+module _ {out text left : List ℕ} {at : ℕ} {mid : List ℕ} (p : PutFours out text left at mid) where
+  pub last_room : (size : ℕ) → 4 + length (closed_bytes text) ≤ size → at + length (closed_bytes left) ≤ size
+  last_room size h = omega (arith, p.stored.ends, ap length p.rest, length-append p.bytes (closed_bytes left))
+
+  pub fours_more : (a b c d : ℕ) {next : ℕ} {behind after : List ℕ} → closed_bytes left ≡ three_of a b c d ++ closed_bytes behind → are_listed behind ≡ true
+      → Stored mid at (three_of a b c d) next after → PutFours out text behind next after
+  fours_more a b c d {behind = behind} e l s = record {
+    bytes = p.bytes ++ three_of a b c d;
+    stored = then p.stored s;
+    rest = p.rest ∙ ap (λ (r : List ℕ). p.bytes ++ r) e ∙ sym (append_assoc p.bytes (three_of a b c d) (closed_bytes behind));
+    listed = l;
+  }
+
+  pub all_put : {next : ℕ} {after : List ℕ} → Stored mid at (closed_bytes left) next after → Stored out 4 (closed_bytes text) next after
   all_put s = rw p.rest (then p.stored s)
+
+-- four characters, and those behind them
+pub four_rest : (text : List ℕ) → 4 ≤ length text → text ≡ get_or text 0 0 ∷ get_or text 1 0 ∷ get_or text 2 0 ∷ get_or text 3 0 ∷ take (length text - 4) (drop 4 text)
+four_rest [] h = absurd (omega arith)
+four_rest (a ∷ []) h = absurd (omega arith)
+four_rest (a ∷ b ∷ []) h = absurd (omega arith)
+four_rest (a ∷ b ∷ c ∷ []) h = absurd (omega arith)
+four_rest (a ∷ b ∷ c ∷ d ∷ rest) h = let n : length (a ∷ b ∷ c ∷ d ∷ rest) - 4 ≡ length rest = omega arith in rw (n, take_all (length rest) rest (omega arith))
+
+pub of_more : (l : List ℕ) → 4 ≤ length l → (a b c d : ℕ) → a ≡ code_of (get_or l 0 0) → b ≡ code_of (get_or l 1 0) → c ≡ code_of (get_or l 2 0) → d ≡ code_of (get_or l 3 0)
+    → closed_bytes l ≡ three_of a b c d ++ closed_bytes (take (length l - 4) (drop 4 l))
+of_more l h a b c d ea eb ec ed = ap closed_bytes (four_rest l h) ∙ next_four _ a ea _ b eb _ c ec _ d _ ed
+
+-- and they are listed
+pub behind_listed : (text : List ℕ) → 4 ≤ length text → are_listed text ≡ true → are_listed (take (length text - 4) (drop 4 text)) ≡ true
+behind_listed text h l =
+    let p = listed_both _ _ (rw (four_rest text h) at l) in
+    let q = listed_both _ _ p.1 in
+    let r = listed_both _ _ q.1 in
+    (listed_both _ _ r.1).1
 
 -- four codes are three bytes
 pub packed-length : (cs : List ℕ) → length (closed_bytes cs) ≡ suc (length cs) - suc (length cs) / 4

@@ -5,8 +5,8 @@ ghost use Rattle.std.specs.Prelude.{◌≡◌, true, [], ◌∷◌, ◌+◌, ◌
 ghost use Rattle.numbers.specs.Lent.{written, Stored};
 ghost use Rattle.characters.specs.Characters.{code_of, are_listed};
 ghost use Rattle.generic_text.specs.Texts.{text_of_codes};
-ghost use Rattle.generic_text.specs.Product.{decode, is_generic_text, hours_in, minutes_in, padding_in, is_fit, text_with, header_of, code_bytes, closed_bytes};
-ghost use Rattle.generic_text.specs.Putting.{codes_behind, three_of, PutFours};
+ghost use Rattle.generic_text.specs.Product.{decode, is_generic_text, hours_in, minutes_in, padding_in, is_fit, text_with, header_of, closed_bytes};
+ghost use Rattle.generic_text.specs.Putting.{three_of};
 ghost use Rattle.generic_text.specs.Answers.{text_of, ReadText, WroteText};
 ghost use Rattle.generic_text.specs.Codes.{codes_left, Fits, or_no_bytes, measured};
 
@@ -135,8 +135,7 @@ pub fn write(
         return Err(Refusal::NoRoom);
     }
     put_header(out, hours, minutes, padding);
-    let at = put_fours(out, text);
-    Ok(put_last(out, at, text))
+    Ok(put_codes(out, text))
 }
 
 // Each field of the header fits its bits.
@@ -157,23 +156,22 @@ fn put_header(out: &mut [u8], hours: u8, minutes: u8, padding: u8)
     out[3] = minutes % 16 * 16 + padding;
 }
 
-// The characters' codes behind the header, as long as there are four.
-fn put_fours(out: &mut [u8], text: &[u8]) -> usize
+// The characters' codes behind the header, four at a time, and the last.
+fn put_codes(out: &mut [u8], text: &[u8]) -> usize
     requires { (4 + length (closed_bytes text.now) ≤ length out.old) × (are_listed text.now ≡ true) }
-    ensures { PutFours out.old text.now (length text.now - length text.now % 4) result out.new }
+    ensures { Stored out.old 4 (closed_bytes text.now) result out.new }
 {
-    let end = text.len() - text.len() % 4;
+    let mut left = text;
     let mut at = 4;
-    let mut i = 0;
-    while i < end {
-        let a = listed_code(text[i]);
-        let b = listed_code(text[i + 1]);
-        let c = listed_code(text[i + 2]);
-        let d = listed_code(text[i + 3]);
+    while let [a, b, c, d, rest @ ..] = left {
+        let a = listed_code(*a);
+        let b = listed_code(*b);
+        let c = listed_code(*c);
+        let d = listed_code(*d);
         at = put_three(out, at, a, b, c, d);
-        i += 4;
+        left = rest;
     }
-    at
+    put_last(out, at, left)
 }
 
 // The code of a byte that the list has: most are their own code, or 64 more.
@@ -203,26 +201,30 @@ fn put_three(out: &mut [u8], at: usize, a: u8, b: u8, c: u8, d: u8) -> usize
 }
 
 // The last characters, fewer than four, closed by one code 0; zero bits fill the last byte.
-fn put_last(out: &mut [u8], at: usize, text: &[u8]) -> usize
-    requires { (at + length (code_bytes (codes_behind text.now (length text.now - length text.now % 4))) ≤ length out.old) × (are_listed text.now ≡ true) }
-    ensures { Stored out.old at (code_bytes (codes_behind text.now (length text.now - length text.now % 4))) result out.new }
+fn put_last(out: &mut [u8], at: usize, left: &[u8]) -> usize
+    requires { (at + length (closed_bytes left.now) ≤ length out.old) × (are_listed left.now ≡ true) × (length left.now < 4) }
+    ensures { Stored out.old at (closed_bytes left.now) result out.new }
 {
-    let left = text.len() % 4;
-    let i = text.len() - left;
-    if left == 0 {
-        out[at] = 0;
-        return at + 1;
+    match left {
+        [] => {
+            out[at] = 0;
+            at + 1
+        }
+        [a] => {
+            out[at] = listed_code(*a) * 4;
+            out[at + 1] = 0;
+            at + 2
+        }
+        [a, b] => {
+            let a = listed_code(*a);
+            let b = listed_code(*b);
+            put_three(out, at, a, b, 0, 0)
+        }
+        [a, b, c, ..] => {
+            let a = listed_code(*a);
+            let b = listed_code(*b);
+            let c = listed_code(*c);
+            put_three(out, at, a, b, c, 0)
+        }
     }
-    let a = listed_code(text[i]);
-    if left == 1 {
-        out[at] = a * 4;
-        out[at + 1] = 0;
-        return at + 2;
-    }
-    let b = listed_code(text[i + 1]);
-    if left == 2 {
-        return put_three(out, at, a, b, 0, 0);
-    }
-    let c = listed_code(text[i + 2]);
-    put_three(out, at, a, b, c, 0)
 }

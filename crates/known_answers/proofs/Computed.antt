@@ -9,7 +9,7 @@ use Rattle.framing.specs.Stuffing.{escape, stuff}
 use Rattle.framing.specs.Frame.{low_first, enclosed, frame_of}
 use Rattle.collecting.specs.Step.{collected, unescaped, inside, checked, closed, taken, next, answer_to, shown}
 use Rattle.collecting.specs.Stream.{reply, reply_to, answers}
-use Rattle.codec.specs.Reading.{misfit, reading}
+use Rattle.codec.specs.Reading.{fit, reading}
 use Rattle.heartbeat.specs.Heartbeat.{heartbeat_in}
 use Rattle.c_report.specs.Flat.{track_from}
 use Rattle.report.specs.Marks.{position_of, altitude_of, speed_of, climb_of}
@@ -27,9 +27,9 @@ use Rattle.known_answers.specs.Row.{Holds, texts_in, done, ◌and◌}
 use Rattle.known_answers.specs.Values.{Starred, Examples}
 
 pub starred_hold : Starred
-unfolding Holds ◌⊕◌ bit signed_in bits_of bits_in step fcs escape stuff low_first enclosed frame_of collected unescaped inside checked closed taken next answer_to shown reply reply_to answers misfit reading heartbeat_in track_from position_of altitude_of speed_of climb_of report_in good_position good_report kind_in read_message frames_before walk payload_frames frame_list
+unfolding Holds ◌⊕◌ bit signed_in bits_of bits_in step fcs escape stuff low_first enclosed frame_of collected unescaped inside checked closed taken next answer_to shown reply reply_to answers fit reading heartbeat_in track_from position_of altitude_of speed_of climb_of report_in good_position good_report kind_in read_message frames_before walk payload_frames frame_list
 starred_hold = refl and refl and refl and refl and refl and refl and refl and refl and refl and refl and refl and refl and refl and refl and refl and refl and refl and refl and refl and refl and refl and refl and refl and refl and refl and refl and refl and refl and refl and done
 
 pub examples_hold : Examples
-unfolding Holds ◌⊕◌ bit signed_in bits_of bits_in step fcs escape stuff low_first enclosed frame_of misfit reading heartbeat_in track_from position_of altitude_of speed_of climb_of report_in good_position good_report kind_in read_message frames_before walk payload_frames data_in content_of contents bytes_of rows textual gather numbers_in character_of place_in code_of text_of_codes decode header_of code_bytes encode texts_in
+unfolding Holds ◌⊕◌ bit signed_in bits_of bits_in step fcs escape stuff low_first enclosed frame_of fit reading heartbeat_in track_from position_of altitude_of speed_of climb_of report_in good_position good_report kind_in read_message frames_before walk payload_frames data_in content_of contents bytes_of rows textual gather numbers_in character_of place_in code_of text_of_codes decode header_of code_bytes encode texts_in
 examples_hold = refl and refl and refl and refl and refl and refl and refl and refl and refl and done

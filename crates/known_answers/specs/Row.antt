@@ -1,20 +1,18 @@
 -- A row of the table of values (RULES 'Values'): what the library's definitions work out, and what that is.
 -- Assumes nothing.
-use Rattle.std.specs.Prelude.{◌≡◌, ℕ, ◌+◌, ◌*◌, ◌/◌, ◌%◌, true, false, List, [], ◌∷◌, ◌++◌, map, ℤ, pos, negsuc, length, replicate}
+use Rattle.std.specs.Prelude.{◌≡◌, ℕ, ◌+◌, ◌*◌, ◌/◌, ◌%◌, true, false, List, [], ◌∷◌, ◌++◌, map, ℤ, pos, negsuc, length, replicate, Result, Ok, Some}
 use Rattle.fcs.specs.Fcs.{fcs}
 use Rattle.framing.specs.Stuffing.{flag}
 use Rattle.framing.specs.Frame.{frame_of}
 use Rattle.collecting.specs.Step.{fresh}
 use Rattle.collecting.specs.Stream.{Reply, nothing, answers}
 use Rattle.units.specs.Feet.{pressure_feet}
-use Rattle.message_types.specs.declared.Position.TheVariants.{At}
-use Rattle.message_types.specs.declared.Altitude.TheVariants.{Known}
 use Rattle.message_types.specs.declared.TrackKind.TheVariants.{TrueTrack}
 use Rattle.message_types.specs.declared.Speed.TheVariants.{Knots}
 use Rattle.message_types.specs.declared.Climb.{Climb}
+use Rattle.refusals.specs.declared.Refusal.{Refusal}
+use Rattle.message_types.specs.declared.Message.{Message}
 use Rattle.message_types.specs.declared.Message.TheVariants.{Heartbeat, Traffic}
-use Rattle.message_types.specs.declared.Reading.{Reading}
-use Rattle.message_types.specs.declared.Reading.TheVariants.{Message}
 use Rattle.messages.specs.Message.{read_message}
 use Rattle.information_frames.specs.declared.FrameList.{FrameList}
 use Rattle.information_frames.specs.Frames.{length_in}
@@ -35,22 +33,22 @@ pub data Row : Type 0 where
   -- bytes between two flags, and the closing flag's answer
   between : List ℕ → Reply → Row
   -- a message and what reading answers
-  read : List ℕ → Reading → Row
+  read : List ℕ → Result Message Refusal → Row
   -- an altitude's steps, and its feet
   feet : ℕ → ℤ → Row
   -- the two bytes of an information frame's header, and its length
   header : ℕ → ℕ → ℕ → Row
   -- a header at byte 0 of valid application data with zeros behind it, and what listing answers
-  list : ℕ → ℕ → FrameList → Row
+  list : ℕ → ℕ → Result FrameList Refusal → Row
   -- valid application data of 352 bytes with zeros behind it, and the texts that its frames hold
   texts : List ℕ → List Decoded → Row
   -- the same, and the bytes of those texts, written
   rewritten : List ℕ → List (List ℕ) → Row
 
 -- a heartbeat with status 81 41, its time and its two counts
-abbrev pub heartbeat_with : ℕ → ℕ → ℕ → Reading
+abbrev pub heartbeat_with : ℕ → ℕ → ℕ → Result Message Refusal
 heartbeat_with time uplinks others =
-    Message (Heartbeat (record { status1 = 0x81; status2 = 0x41; time = time; uplinks = uplinks; reserved = 0; basic_and_long = others }))
+    Ok (Heartbeat (record { status1 = 0x81; status2 = 0x41; time = time; uplinks = uplinks; reserved = 0; basic_and_long = others }))
 
 -- 001 §3.5.2's traffic report, with the fields of altitude and climb
 abbrev pub traffic_message : ℕ → ℕ → List ℕ
@@ -59,14 +57,14 @@ traffic_message d v =
     ∷ (0xB0 + v / 256) ∷ (v % 256) ∷ 0x20 ∷ 0x01 ∷ 0x4E ∷ 0x38 ∷ 0x32 ∷ 0x35 ∷ 0x56 ∷ 0x20 ∷ 0x20 ∷ 0x20 ∷ 0x00 ∷ []
 
 -- what it says: N825V, a light aircraft, airborne, at 123 knots
-abbrev pub traffic_with : ℕ → Climb → Reading
-traffic_with d climb = Message (Traffic (record {
+abbrev pub traffic_with : ℕ → Climb → Result Message Refusal
+traffic_with d climb = Ok (Traffic (record {
   report = record {
     alert = 0;
     address_type = 0;
     address = 0xAB4549;
-    position = At (pos 2092821) (negsuc 5731975);
-    altitude = Known (record { steps = d });
+    position = Some (record { latitude = pos 2092821; longitude = negsuc 5731975 });
+    altitude = Some (record { steps = d });
     track_kind = TrueTrack;
     extrapolated = false;
     airborne = true;

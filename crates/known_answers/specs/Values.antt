@@ -1,11 +1,10 @@
 -- RULES 'Values': the starred ones, 1 to 10, as one list, and the claim that every row holds. Then value 11, and
 -- examples of 001.
 -- Assumes nothing.
-use Rattle.std.specs.Prelude.{List, [], ◌∷◌, pos, negsuc}
+use Rattle.std.specs.Prelude.{List, [], ◌∷◌, pos, negsuc, Ok, Err}
 use Rattle.collecting.specs.Stream.{message, refused}
 use Rattle.message_types.specs.declared.Climb.TheVariants.{Steps}
-use Rattle.message_types.specs.declared.Reading.TheVariants.{Refused}
-use Rattle.information_frames.specs.declared.FrameList.TheVariants as frames
+use Rattle.refusals.specs.declared.Refusal.TheVariants.{WrongLength, BadField, PastTheEnd}
 use Rattle.information_frames.specs.Samples.{bytes_of, textual}
 use Rattle.known_answers.specs.Row.{Row, sequence, frame, shortest, longest, between, read, feet, header, list, texts, rewritten, heartbeat_with, traffic_message, traffic_with, report_of, AllHold}
 
@@ -28,15 +27,15 @@ starred =
     ∷ between (0x7D ∷ 0x00 ∷ []) (refused 1 2)
     ∷ between (0x07 ∷ 0x07 ∷ []) (refused 4 2)
     ∷ between (0x07 ∷ 0x07 ∷ 0x00 ∷ []) (message (0x07 ∷ []))
-    ∷ read (0x07 ∷ []) (Refused 7)
+    ∷ read (0x07 ∷ []) (Err WrongLength)
     -- 7: the last second of a day, and the next
     ∷ read (0x00 ∷ 0x81 ∷ 0xC1 ∷ 0x80 ∷ 0x51 ∷ 0x08 ∷ 0x02 ∷ []) (heartbeat_with 86400 1 2)
-    ∷ read (0x00 ∷ 0x81 ∷ 0xC1 ∷ 0x81 ∷ 0x51 ∷ 0x08 ∷ 0x02 ∷ []) (Refused 8)
+    ∷ read (0x00 ∷ 0x81 ∷ 0xC1 ∷ 0x81 ∷ 0x51 ∷ 0x08 ∷ 0x02 ∷ []) (Err BadField)
     -- 8: climbs; `negsuc k` is -(k + 1)
     ∷ read (traffic_message 0x0F0 0x1FD) (traffic_with 240 (Steps (pos 509)))
     ∷ read (traffic_message 0x0F0 0xE03) (traffic_with 240 (Steps (negsuc 508)))
     ∷ read (traffic_message 0x0F0 0xFFF) (traffic_with 240 (Steps (negsuc 0)))
-    ∷ read (traffic_message 0x0F0 0x1FF) (Refused 8)
+    ∷ read (traffic_message 0x0F0 0x1FF) (Err BadField)
     -- 9: altitudes, and their feet
     ∷ read (traffic_message 0x000 0x001) (traffic_with 0 (Steps (pos 1)))
     ∷ feet 0 (negsuc 999)
@@ -48,8 +47,8 @@ starred =
     ∷ header 0x96 0x00 300
     ∷ header 0x00 0x80 1
     ∷ header 0xD3 0x00 422
-    ∷ list 0xD3 0x00 (frames.Frames 1 424)
-    ∷ list 0xD3 0x80 (frames.Refused 11)
+    ∷ list 0xD3 0x00 (Ok (record { count = 1; end = 424 }))
+    ∷ list 0xD3 0x80 (Err PastTheEnd)
     ∷ []
 
 abbrev pub Starred : Type 0

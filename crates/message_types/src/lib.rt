@@ -97,7 +97,8 @@ pub enum Climb {
     None,
 }
 
-// As it came, any bytes.
+// As it came, any bytes. Eight fields and no array: `ReportWrittenRead` holds of every `Report` of the definitions, where an array would be
+// a list of any length.
 #[repr(C)]
 #[derive(Clone, Copy, Debug, Default, PartialEq, Eq)]
 pub struct CallSign(

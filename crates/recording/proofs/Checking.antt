@@ -11,89 +11,98 @@ use lib.Seq.{take-take, take_all, take_at, get_or-take, length-take-le}
 use borrow.Author.Tests.{eq-eqb, ne_eqb, lt-ltb, le-ltb, ltb-false}
 use Rattle.numbers.specs.Lent.{written}
 use Rattle.fcs.specs.Fcs.{fcs}
-use Rattle.framing.specs.Stuffing.{unstuff}
+use Rattle.framing.specs.Stuffing.{stuff, unstuff, Unstuffed}
+use Rattle.collecting.specs.declared.Answer.{Answer}
 use Rattle.collecting.specs.declared.Answer.TheVariants.{None, Accepted, Refused}
-use Rattle.collecting.specs.Stream.{nothing, message, refused, reply, unflagged}
-use Rattle.collecting.specs.Between.{whole, reply_between}
+use Rattle.collecting.specs.Stream.{Reply, nothing, message, refused, reply, unflagged}
+use Rattle.collecting.specs.Between.{whole, verdict, reply_between}
+use Rattle.collecting.proofs.Filling.{unflagged_most}
 use Rattle.recording.proofs.Judging.{verdict_judged}
-use Rattle.recording.specs.declared.UnstuffedPart.{UnstuffedPart}
-use Rattle.recording.specs.Steps.{part_bytes, unstuffed_part, checked_part, IsReply, reply_to_part, stuffed_taken, judged}
+use Rattle.recording.specs.declared.Broken.{Broken}
+use Rattle.recording.specs.declared.Fault.{Fault}
+use Rattle.recording.specs.declared.Fault.TheVariants.{BadEscape, CutEscape, TooLong}
+use Rattle.recording.specs.Steps.{fault_number, first_fault, part_bytes, Whole, Breaking, IsReply, AnswersPart, reply_to_part, judged}
 
-module _ (u : UnstuffedPart) (room : List ℕ) where
-  pub faulty : (u.fault ≡ 0 → ⊥) → IsReply (Refused u.fault u.taken) room (checked_part u room)
-  unfolding reply
-  faulty f = record { same = rw (ne_eqb u.fault 0 f) refl; within = omega arith }
+-- what a part's bytes are answered, all `at` stuffed ones taken
+module _ (bs : List ℕ) (at : ℕ) where
+  pub empty : length bs ≡ 0 → IsReply None bs (whole at bs)
+  unfolding reply whole
+  empty e = record { same = rw (eq-eqb (length bs) 0 e) refl; within = omega arith }
 
-  module _ (f : u.fault ≡ 0) (l : u.count ≤ length room) where
-    long : length (take u.count room) ≡ u.count
-    long = length-take-le u.count room l
+  pub short : (length bs ≡ 0 → ⊥) → length bs < 3 → IsReply (Refused 4 at) bs (whole at bs)
+  unfolding reply whole
+  short z h = record { same = rw (ne_eqb (length bs) 0 z, lt-ltb (length bs) 3 h) refl; within = omega arith }
 
-    no_fault : eqb u.fault 0 ≡ true
-    no_fault = eq-eqb u.fault 0 f
+  module _ (h : 3 ≤ length bs) (s w : ℕ) (hs : s ≡ fcs (take (length bs - 2) bs)) (hw : w ≡ 256 * get_or bs (length bs - 2 + 1) 0 + get_or bs (length bs - 2) 0) where
+    compared : whole at bs ≡ cond (eqb s w) (message (take (length bs - 2) bs)) (refused 5 at)
+    unfolding whole
+    compared =
+        let last : length bs - 1 ≡ length bs - 2 + 1 = omega arith in
+        rw (ne_eqb (length bs) 0 (omega arith), le-ltb (length bs) 3 h, last, sym hs, sym hw) refl
 
-    pub empty : u.count ≡ 0 → IsReply None room (checked_part u room)
-    unfolding reply whole
-    empty e = record { same = rw (no_fault, eq-eqb (length (take u.count room)) 0 (omega (arith, long))) refl; within = omega arith }
+    pub agrees : s ≡ w → IsReply (Accepted (length bs - 2)) bs (whole at bs)
+    unfolding reply
+    agrees e = record { same = rw (compared, eq-eqb s w e) refl; within = omega arith }
 
-    pub short : (u.count ≡ 0 → ⊥) → u.count < 3 → IsReply (Refused 4 u.taken) room (checked_part u room)
-    unfolding reply whole
-    short z h = record {
-      same = rw (no_fault, ne_eqb (length (take u.count room)) 0 (omega (arith, long, z)), lt-ltb (length (take u.count room)) 3 (omega (arith, long))) refl;
-      within = omega arith;
-    }
+    pub differs : (s ≡ w → ⊥) → IsReply (Refused 5 at) bs (whole at bs)
+    unfolding reply
+    differs d = record { same = rw (compared, ne_eqb s w d) refl; within = omega arith }
 
-    module _ (h : 3 ≤ u.count) (s w : ℕ) (hs : s ≡ fcs (take (u.count - 2) room)) (hw : w ≡ 256 * get_or room (u.count - 2 + 1) 0 + get_or room (u.count - 2) 0) where
-      -- the bytes are those taken
-      compared : checked_part u room ≡ cond (eqb s w) (message (take (u.count - 2) room)) (refused 5 u.taken)
-      unfolding whole
-      compared =
-          let last : u.count - 1 ≡ u.count - 2 + 1 = omega arith in
-          rw (
-            no_fault,
-            ne_eqb (length (take u.count room)) 0 (omega (arith, long)),
-            le-ltb (length (take u.count room)) 3 (omega (arith, long)),
-            long,
-            take-take (u.count - 2) u.count room (omega arith),
-            last,
-            get_or-take u.count room (u.count - 2 + 1) 0 (omega arith),
-            get_or-take u.count room (u.count - 2) 0 (omega arith),
-            sym hs,
-            sym hw,
-          )
-          refl
+-- so many bytes at a room's start
+in_front : (a : Answer) (n : ℕ) (room : List ℕ) (r : Reply) → n ≤ length room → IsReply a (take n room) r → IsReply a room r
+unfolding reply
+in_front None n room r h w = record { same = w.same; within = omega arith }
+in_front (Accepted k) n room r h w =
+    let size = length-take-le n room h in
+    record { same = ap message (sym (take-take k n room (omega (arith, size, w.within)))) ∙ w.same; within = omega (arith, size, w.within) }
+in_front (Refused k at) n room r h w = record { same = w.same; within = omega arith }
 
-      pub agrees : s ≡ w → IsReply (Accepted (u.count - 2)) room (checked_part u room)
-      unfolding reply
-      agrees e = record { same = rw (compared, eq-eqb s w e) refl; within = omega arith }
-
-      pub differs : (s ≡ w → ⊥) → IsReply (Refused 5 u.taken) room (checked_part u room)
-      unfolding reply
-      differs d = record { same = rw (compared, ne_eqb s w d) refl; within = omega arith }
+-- without a fault the bytes as a whole are answered for
+faultless : (at : ℕ) (u : Unstuffed) → first_fault u ≡ 0 → whole at u.bytes ≡ verdict at u
+unfolding verdict
+faultless at u = go (ltb 438 (length u.bytes))
+  where
+    go : (t : Bool) → cond t 3 u.fault ≡ 0
+        → whole at u.bytes ≡ cond t (refused 3 (length (stuff (take 439 u.bytes)))) (cond (eqb u.fault 0) (whole at u.bytes) (refused u.fault (cond (eqb u.fault 1) (length (stuff u.bytes) + 2) at)))
+    go true h = absurd (omega arith)
+    go false h = rw (eq-eqb u.fault 0 h) refl
 
 -- a part that is unstuffed and then checked is answered as the bytes between two flags are
-module _ (part room₀ : List ℕ) (fits : length room₀ ≡ 438) {u : UnstuffedPart} {room : List ℕ} (e : u ≡ unstuffed_part part) (f : room ≡ written (part_bytes part) room₀) where
-  count : u.count ≡ length (part_bytes part)
-  unfolding unstuffed_part
-  count = ap (λ (v : UnstuffedPart). v.count) e
-
-  pub in_room : (u.count ≤ length room) × (length room ≡ 438)
+module _ (part room₀ : List ℕ) (fits : length room₀ ≡ 438) {room : List ℕ} (f : room ≡ written (part_bytes part) room₀) where
+  pub room_size : length room ≡ 438
   unfolding written
-  in_room =
-      let most = length-take 438 (unstuff part).bytes in
-      let size : length room ≡ 438 =
-      ap length f ∙ omega (arith, most, fits, length-append (part_bytes part) (drop (length (part_bytes part)) room₀), length-drop (length (part_bytes part)) room₀) in
-      (omega (arith, count, most, size), size)
+  room_size =
+      ap length f ∙ omega (arith, length-take 438 (unstuff part).bytes, fits, length-append (part_bytes part) (drop (length (part_bytes part)) room₀), length-drop (length (part_bytes part)) room₀)
 
-  pub answered_part : checked_part u room ≡ reply_between part
-  unfolding unstuffed_part reply_between written
-  answered_part = rw (e, f, take_at (part_bytes part) (drop (length (part_bytes part)) room₀) (length (part_bytes part)) refl) (go (ltb 438 (length bytes)) refl (stuffed_taken (length part) (unstuff part)) ∙ sym (verdict_judged (length part) (unstuff part)))
+  pub answered_part : (n : ℕ) → Whole part n → (a : Answer) → IsReply a (take n room) (whole (length part) (take n room)) → IsReply a room (reply_between part)
+  unfolding reply_between written
+  answered_part n w a h =
+      let bytes = (unstuff part).bytes in
+      let bound : n ≤ length room = omega (arith, w.count, length-take 438 bytes, room_size) in
+      let front : take n room ≡ part_bytes part = rw (f, w.count) (take_at (part_bytes part) (drop (length (part_bytes part)) room₀) (length (part_bytes part)) refl) in
+      let all : part_bytes part ≡ bytes = take_all 438 bytes (short_enough (unstuff part) w.none) in
+      let same : whole (length part) (take n room) ≡ verdict (length part) (unstuff part) =
+      ap (whole (length part)) (front ∙ all) ∙ faultless (length part) (unstuff part) w.none in
+      in_front a n room _ bound (record { same = h.same ∙ same; within = h.within })
     where
-      bytes : List ℕ
-      bytes = (unstuff part).bytes
+      short_enough : (u : Unstuffed) → first_fault u ≡ 0 → length u.bytes ≤ 438
+      short_enough u = go (ltb 438 (length u.bytes)) refl
+        where
+          go : (t : Bool) → ltb 438 (length u.bytes) ≡ t → cond t 3 u.fault ≡ 0 → length u.bytes ≤ 438
+          go true e h = absurd (omega arith)
+          go false e h = ltb-false 438 (length u.bytes) e
 
-      go : (t : Bool) → ltb 438 (length bytes) ≡ t → (at : ℕ) → judged (cond t 3 (unstuff part).fault) at (take 438 bytes) ≡ judged (cond t 3 (unstuff part).fault) at bytes
-      go true h at = refl
-      go false h at = rw (take_all 438 bytes (ltb-false 438 (length bytes) h))
+  pub broken_part : (b : Broken) → Breaking part b → (k : ℕ) → k ≡ fault_number b.fault → IsReply (Refused k b.taken) room (reply_between part)
+  unfolding reply_between reply
+  broken_part b w k e = record {
+    same = rw (verdict_judged (length part) (unstuff part), sym w.number, sym w.met, e) (faulty b.fault);
+    within = omega arith;
+  }
+    where
+      faulty : (f : Fault) → refused (fault_number f) b.taken ≡ judged (fault_number f) b.taken (unstuff part).bytes
+      faulty BadEscape = refl
+      faulty CutEscape = refl
+      faulty TooLong = refl
 
 module _ (bs : List ℕ) where
   pub no_flag : length bs ≤ unflagged bs → nothing ≡ reply_to_part bs
@@ -103,3 +112,19 @@ module _ (bs : List ℕ) where
   pub closing_flag : unflagged bs < length bs → reply_between (take (unflagged bs) bs) ≡ reply_to_part bs
   unfolding reply_to_part
   closing_flag h = rw (lt-ltb (unflagged bs) (length bs) h) refl
+
+-- the part behind the flag at place i, which a flag closes
+pub closed_part : (recording : List ℕ) (i end : ℕ) (a : Answer) (room : List ℕ) → i < length recording → end ≡ i + 1 + unflagged (drop (i + 1) recording)
+    → (end ≡ length recording → ⊥) → length room ≡ 438 → IsReply a room (reply_between (take (end - (i + 1)) (drop (i + 1) recording)))
+    → AnswersPart recording i (record { answer = a; end = end }) room
+closed_part recording i end a room h e n s w =
+    let bs = drop (i + 1) recording in
+    let size : end - (i + 1) ≡ unflagged bs = omega (arith, e) in
+    record {
+      answers = record {
+        same = w.same ∙ ap (λ (k : ℕ). reply_between (take k bs)) size ∙ closing_flag bs (omega (arith, e, n, unflagged_most bs, length-drop (i + 1) recording));
+        within = w.within;
+      };
+      ends = e;
+      size = s;
+    }

@@ -1,9 +1,8 @@
 -- What is proved of a recording read as a whole (RULES 'Recordings'), over the definitions that the contracts cite.
 -- Assumes nothing.
-use Rattle.std.specs.Prelude.{◌≡◌, ℕ, ◌*◌, ◌/◌, ◌≤◌, min, List, length}
+use Rattle.std.specs.Prelude.{◌≡◌, ℕ, ◌*◌, ◌/◌, ◌≤◌, min, List, Ok, length}
 use Rattle.collecting.specs.Step.{fresh}
 use Rattle.collecting.specs.Stream.{answers}
-use Rattle.recording.specs.declared.Recorded.TheVariants.{Entries}
 use Rattle.recording.specs.Cut.{flag_count}
 use Rattle.recording.specs.Recording.{only_answers, answers_between, recorded}
 
@@ -15,4 +14,4 @@ AsFed = (bs : List ℕ) → answers_between bs ≡ only_answers (answers fresh b
 -- 9 is never answered where the list has places for as many entries as there are flags, or for half as many as there are bytes, and the
 -- messages have as many bytes as the recording
 abbrev pub Enough : Type 0
-Enough = (bs : List ℕ) (numbers bytes : ℕ) → 3 * min (flag_count bs) (length bs / 2) ≤ numbers → length bs ≤ bytes → recorded bs numbers bytes ≡ Entries (length (answers_between bs))
+Enough = (bs : List ℕ) (numbers bytes : ℕ) → 3 * min (flag_count bs) (length bs / 2) ≤ numbers → length bs ≤ bytes → recorded bs numbers bytes ≡ Ok (length (answers_between bs))

@@ -1,11 +1,12 @@
 -- What a recording is answered as a whole (RULES 'Recordings').
 -- Assumes nothing.
-use Rattle.std.specs.Prelude.{◌≡◌, ℕ, ◌/◌, Bool, cond, ◌||◌, List, [], ◌∷◌, ◌++◌, map, ltb, length}
+use Rattle.std.specs.Prelude.{◌≡◌, ℕ, ◌/◌, Bool, cond, ◌||◌, List, [], ◌∷◌, ◌++◌, Result, Ok, Err, map, ltb, length}
 use Rattle.numbers.specs.Lent.{written}
 use Rattle.collecting.specs.Stream.{Reply, nothing, message, refused}
 use Rattle.collecting.specs.Between.{reply_between}
-use Rattle.recording.specs.declared.Recorded.{Recorded}
-use Rattle.recording.specs.declared.Recorded.TheVariants.{Entries, Refused}
+use Rattle.refusals.specs.declared.Refusal.{Refusal}
+use Rattle.refusals.specs.declared.Refusal.TheVariants.{NoRoom}
+use Rattle.refusals.specs.Numbers.{refusal_number}
 use Rattle.recording.specs.declared.Needed.{Needed}
 use Rattle.recording.specs.Cut.{cut, between_flags}
 
@@ -53,26 +54,26 @@ abbrev pub is_short : List ℕ → ℕ → ℕ → Bool
 is_short bs numbers bytes = ltb (numbers / 3) (needed_by bs).entries || ltb bytes (needed_by bs).bytes
 
 -- 9 for fewer places than entries, or fewer bytes than the messages have; else how many entries there are
-unfoldable pub recorded : List ℕ → ℕ → ℕ → Recorded
-recorded bs numbers bytes = cond (is_short bs numbers bytes) (Refused 9) (Entries (needed_by bs).entries)
+unfoldable pub recorded : List ℕ → ℕ → ℕ → Result ℕ Refusal
+recorded bs numbers bytes = cond (is_short bs numbers bytes) (Err NoRoom) (Ok (needed_by bs).entries)
 
 -- the number for each case
-abbrev pub recorded_number : Recorded → ℕ
-recorded_number (Entries n) = 0
-recorded_number (Refused k) = k
+abbrev pub recorded_number : Result ℕ Refusal → ℕ
+recorded_number (Ok n) = 0
+recorded_number (Err r) = refusal_number r
 
 -- how many entries each case says there are
-abbrev pub recorded_entries : Recorded → ℕ
-recorded_entries (Entries n) = n
-recorded_entries (Refused k) = 0
+abbrev pub recorded_entries : Result ℕ Refusal → ℕ
+recorded_entries (Ok n) = n
+recorded_entries (Err r) = 0
 
 -- what each case writes, of each answer what f makes of it
-abbrev pub recorded_output : (Reply → List ℕ) → Recorded → List ℕ → List ℕ
-recorded_output f (Entries n) bs = each_answer f bs
-recorded_output f (Refused k) bs = []
+abbrev pub recorded_output : (Reply → List ℕ) → Result ℕ Refusal → List ℕ → List ℕ
+recorded_output f (Ok n) bs = each_answer f bs
+recorded_output f (Err r) bs = []
 
 -- what reading a recording answers, and what the list and the memory for messages hold then
-pub record ReadRecording (bs list messages : List ℕ) (r : Recorded) (List-left messages-left : List ℕ) : Type 0 where
+pub record ReadRecording (bs list messages : List ℕ) (r : Result ℕ Refusal) (List-left messages-left : List ℕ) : Type 0 where
   pub answers : r ≡ recorded bs (length list) (length messages)
   pub leaves_list : List-left ≡ written (recorded_output entry_of r bs) list
   pub leaves_messages : messages-left ≡ written (recorded_output message_in r bs) messages

@@ -1,22 +1,37 @@
 -- The steps that answer a part, as the code takes them (RULES 'Recordings').
 -- Assumes nothing.
-use Rattle.std.specs.Prelude.{◌≡◌, ℕ, ◌+◌, ◌≤◌, ◌<◌, cond, List, [], ◌∷◌, eqb, ltb, length, take, drop}
+use Rattle.std.specs.Prelude.{◌≡◌, ℕ, ◌+◌, ◌≤◌, ◌<◌, cond, List, [], ◌∷◌, Result, Ok, Err, eqb, ltb, length, take, drop}
 use Rattle.framing.specs.Stuffing.{escape, stuff, unstuffed, Unstuffed, byte_before, unstuff}
 use Rattle.collecting.specs.declared.Answer.{Answer}
 use Rattle.collecting.specs.Stream.{Reply, nothing, refused, reply, unflagged, is_answered, answer_number, message_length, position}
 use Rattle.collecting.specs.Between.{whole, reply_between}
 use Rattle.recording.specs.declared.Unescaped.{Unescaped}
-use Rattle.recording.specs.declared.UnstuffedPart.{UnstuffedPart}
+use Rattle.recording.specs.declared.Broken.{Broken}
+use Rattle.recording.specs.declared.Fault.{Fault}
+use Rattle.recording.specs.declared.Fault.TheVariants.{BadEscape, CutEscape, TooLong}
 use Rattle.recording.specs.declared.PartAnswer.{PartAnswer}
 
--- the byte of a part that stands at place i, without its escape
-pub record Unescapes (part : List ℕ) (i : ℕ) (u : Unescaped) : Type 0 where
+-- the number of each fault of stuffing
+abbrev pub fault_number : Fault → ℕ
+fault_number BadEscape = 1
+fault_number CutEscape = 2
+fault_number TooLong = 3
+
+-- the byte of a part that stands at place i, without its escape: it was stuffed to those up to the next place, and what is left stands there
+pub record TakesByte (part : List ℕ) (i : ℕ) (u : Unescaped) : Type 0 where
   pub moves : i < u.next
   pub ends : u.next ≤ length part
-  -- the byte, which was stuffed to those up to the next one, and what is left behind it
-  pub good : u.fault ≡ 0 → (unstuff (drop i part) ≡ byte_before u.byte (unstuff (drop u.next part))) × (length (escape u.byte) + i ≡ u.next)
-  -- no byte more: 1 is met with the two of the escape, 2 with all
-  pub bad : (u.fault ≡ 0 → ⊥) → (unstuff (drop i part) ≡ unstuffed [] u.fault) × (u.next ≡ cond (eqb u.fault 1) (i + 2) (length part))
+  pub left : unstuff (drop i part) ≡ byte_before u.byte (unstuff (drop u.next part))
+  pub size : length (escape u.byte) + i ≡ u.next
+
+-- no byte stands there: 1 is met with the two of the escape, 2 with all
+pub record Breaks (part : List ℕ) (i : ℕ) (b : Broken) : Type 0 where
+  pub same : unstuff (drop i part) ≡ unstuffed [] (fault_number b.fault)
+  pub met : b.taken ≡ cond (eqb (fault_number b.fault) 1) (i + 2) (length part)
+
+abbrev pub Unescapes : List ℕ → ℕ → Result Unescaped Broken → Type 0
+Unescapes part i (Ok u) = TakesByte part i u
+Unescapes part i (Err b) = Breaks part i b
 
 -- the first of 1, 2 and 3 that is met, 0 for none: a 439th byte before the fault of an escape is 3; then that fault
 abbrev pub first_fault : Unstuffed → ℕ
@@ -36,13 +51,19 @@ judged fault at bs = cond (eqb fault 0) (whole at bs) (refused fault at)
 abbrev pub part_bytes : List ℕ → List ℕ
 part_bytes part = take 438 (unstuff part).bytes
 
--- unstuff: the first of 1, 2 and 3 that is met, 0 for none; how many bytes of the part were taken then; how many have room
-unfoldable pub unstuffed_part : List ℕ → UnstuffedPart
-unstuffed_part part = record { fault = first_fault (unstuff part); taken = stuffed_taken (length part) (unstuff part); count = length (part_bytes part) }
+-- unstuff: no fault, and so many bytes
+pub record Whole (part : List ℕ) (n : ℕ) : Type 0 where
+  pub none : first_fault (unstuff part) ≡ 0
+  pub count : n ≡ length (part_bytes part)
 
--- check: that fault, or what the bytes are answered
-abbrev pub checked_part : UnstuffedPart → List ℕ → Reply
-checked_part u room = judged u.fault u.taken (take u.count room)
+-- the first of 1, 2 and 3 that is met, and how many bytes of the part were taken then
+pub record Breaking (part : List ℕ) (b : Broken) : Type 0 where
+  pub number : fault_number b.fault ≡ first_fault (unstuff part)
+  pub met : b.taken ≡ stuffed_taken (length part) (unstuff part)
+
+abbrev pub Unstuffs : List ℕ → Result ℕ Broken → Type 0
+Unstuffs part (Ok n) = Whole part n
+Unstuffs part (Err b) = Breaking part b
 
 -- an answer is this reply, its message at the room's start
 pub record IsReply (a : Answer) (room : List ℕ) (r : Reply) : Type 0 where

@@ -8,10 +8,12 @@ ghost use Rattle.std.specs.Prelude.{◌≡◌, false, ◌+◌, ◌≤◌, ◌<�
 ghost use Rattle.numbers.specs.Lent.{written, Stored};
 ghost use Rattle.framing.specs.Stuffing.{Flagless};
 ghost use Rattle.collecting.specs.Stream.{unflagged};
-ghost use Rattle.recording.specs.Steps.{Unescapes, part_bytes, unstuffed_part, checked_part, IsReply, AnswersPart, answer_entry};
+ghost use Rattle.collecting.specs.Between.{whole};
+ghost use Rattle.recording.specs.Steps.{fault_number, Unescapes, part_bytes, Unstuffs, IsReply, AnswersPart, answer_entry};
 ghost use Rattle.recording.specs.Recording.{each_answer, entry_of, message_in, needed_by, is_short, ReadRecording};
 
 use collecting::Answer;
+use refusals::Refusal;
 
 // Cut: where the part that begins at `start` ends, at the next flag or, where there is none, with the recording.
 fn part_end(recording: &[u8], start: usize) -> usize
@@ -21,106 +23,94 @@ fn part_end(recording: &[u8], start: usize) -> usize
     start + collecting::before_flag(&recording[start..])
 }
 
-// A part without its escapes. Its bytes, up to 438, stand at a room's start.
-#[derive(Clone, Copy)]
-struct UnstuffedPart {
-    // the first of 1, 2 and 3 that is met, 0 for none
-    fault: u8,
-    // how many bytes of the part were taken: up to and with the fault, or all
-    taken: usize,
-    // how many bytes are in the room
-    count: usize,
+// What a part's stuffing is refused for, with its number (RULES 'Numbers').
+#[derive(Clone, Copy, Debug, PartialEq, Eq)]
+enum Fault {
+    // 0x7D before another byte than 0x5D and 0x5E
+    BadEscape = 1,
+    // 0x7D before the closing flag
+    CutEscape = 2,
+    // a 439th byte
+    TooLong = 3,
 }
 
-// Unstuff: byte after byte, all or up to a fault.
-fn unstuff(part: &[u8], room: &mut [u8; 438]) -> UnstuffedPart
+impl Fault {
+    fn number(self) -> u8
+        ensures { result ≡ fault_number self }
+    {
+        self as u8
+    }
+}
+
+// The first fault of a part, and how many of its bytes were taken, up to and with the fault.
+#[derive(Clone, Copy, Debug, PartialEq, Eq)]
+struct Broken {
+    fault: Fault,
+    taken: usize,
+}
+
+// Unstuff: byte after byte, all or up to a fault. The bytes, up to 438, stand at the room's start: how many.
+fn unstuff(part: &[u8], room: &mut [u8; 438]) -> Result<usize, Broken>
     requires { Flagless part.now × (length room.old ≡ 438) }
-    ensures { (result ≡ unstuffed_part part.now) × (room.new ≡ written (part_bytes part.now) room.old) }
+    ensures unstuffs { Unstuffs part.now result }
+    ensures output { room.new ≡ written (part_bytes part.now) room.old }
 {
     let mut count = 0;
     let mut taken = 0;
+    // no `for`, as a byte takes one place of the part or two
     while taken < part.len() {
-        let u = unescape(part, taken);
-        taken = u.next;
         // a refused escape gives no byte that could be the 439th
-        if u.fault != 0 {
-            return UnstuffedPart {
-                fault: u.fault,
-                taken,
-                count,
-            };
-        }
-        // this byte is the 439th
+        let unescaped = unescape(part, taken)?;
+        taken = unescaped.next;
         if count == 438 {
-            return UnstuffedPart {
-                fault: 3,
-                taken,
-                count,
-            };
+            let fault = Fault::TooLong;
+            return Err(Broken { fault, taken });
         }
-        room[count] = u.byte;
+        room[count] = unescaped.byte;
         count += 1;
     }
-    UnstuffedPart {
-        fault: 0,
-        taken,
-        count,
-    }
+    Ok(count)
 }
 
-// One byte of a part without its escape, and the place behind it; or the fault of the escape.
+// One byte of a part without its escape, and the place behind it.
 #[derive(Clone, Copy)]
 struct Unescaped {
-    // 1 or 2, 0 for none
-    fault: u8,
     byte: u8,
     next: usize,
 }
 
-fn unescape(part: &[u8], i: usize) -> Unescaped
+fn unescape(part: &[u8], i: usize) -> Result<Unescaped, Broken>
     requires { (i < length part.now) × Flagless part.now }
     ensures { Unescapes part.now i result }
 {
-    let sent = part[i];
-    if sent != 0x7D {
-        return Unescaped {
-            fault: 0,
-            byte: sent,
-            next: i + 1,
-        };
+    let byte = part[i];
+    if byte != 0x7D {
+        return Ok(Unescaped { byte, next: i + 1 });
     }
     if i + 1 == part.len() {
-        return Unescaped {
-            fault: 2,
-            byte: 0,
-            next: i + 1,
-        };
+        return Err(Broken {
+            fault: Fault::CutEscape,
+            taken: i + 1,
+        });
     }
     let escaped = part[i + 1];
     if (escaped == 0x5D) | (escaped == 0x5E) {
-        return Unescaped {
-            fault: 0,
+        return Ok(Unescaped {
             byte: escaped ^ 0x20,
             next: i + 2,
-        };
+        });
     }
-    Unescaped {
-        fault: 1,
-        byte: 0,
-        next: i + 2,
-    }
+    Err(Broken {
+        fault: Fault::BadEscape,
+        taken: i + 2,
+    })
 }
 
-// Check: the fault of unstuffing, then the length, then the check sequence, which stands behind the message, low byte first.
-fn check(unstuffed: UnstuffedPart, room: &[u8]) -> Answer
-    requires { unstuffed.count ≤ length room.now }
-    ensures { IsReply result room.now (checked_part unstuffed room.now) }
+// Check: the length of what was unstuffed, then the check sequence, which stands behind the message, low byte first.
+fn check(bytes: &[u8], taken: usize) -> Answer
+    ensures { IsReply result bytes.now (whole taken bytes.now) }
 {
-    let n = unstuffed.count;
-    let taken = unstuffed.taken;
-    if unstuffed.fault != 0 {
-        return Answer::Refused(unstuffed.fault, taken);
-    }
+    let n = bytes.len();
     // nothing stands between the flags
     if n == 0 {
         return Answer::None;
@@ -130,8 +120,8 @@ fn check(unstuffed: UnstuffedPart, room: &[u8]) -> Answer
         return Answer::Refused(4, taken);
     }
     let k = n - 2;
-    let sent = collecting::word(room[k + 1], room[k]);
-    if fcs::check_sequence(&room[..k]) == sent {
+    let sent = collecting::word(bytes[k + 1], bytes[k]);
+    if fcs::check_sequence(&bytes[..k]) == sent {
         return Answer::Accepted(k);
     }
     Answer::Refused(5, taken)
@@ -158,8 +148,11 @@ fn answer_part(recording: &[u8], i: usize, room: &mut [u8; 438]) -> PartAnswer
             end,
         };
     }
-    let unstuffed = unstuff(&recording[start..end], room);
-    let answer = check(unstuffed, room);
+    let part = &recording[start..end];
+    let answer = match unstuff(part, room) {
+        Ok(count) => check(&room[..count], part.len()),
+        Err(broken) => Answer::Refused(broken.fault.number(), broken.taken),
+    };
     PartAnswer { answer, end }
 }
 
@@ -196,7 +189,7 @@ fn put_entry(list: &mut [usize], n: usize, answer: Answer) -> usize
     ensures { Stored list.old n (answer_entry answer) result list.new }
 {
     if collecting::is_answered(answer) {
-        list[n] = wide(collecting::answer_number(answer));
+        list[n] = usize::from(collecting::answer_number(answer));
         list[n + 1] = collecting::position(answer);
         list[n + 2] = collecting::message_length(answer);
         return n + 3;
@@ -204,23 +197,14 @@ fn put_entry(list: &mut [usize], n: usize, answer: Answer) -> usize
     n
 }
 
-fn wide(n: u8) -> usize
-    ensures { result ≡ n }
-{
-    n as usize
-}
-
 // A message, behind n bytes.
 fn put_message(messages: &mut [u8], n: usize, message: &[u8]) -> usize
     requires { n + length message.now ≤ length messages.old }
     ensures { Stored messages.old n message.now result messages.new }
 {
-    let mut i = 0;
-    while i < message.len() {
-        messages[n + i] = message[i];
-        i += 1;
-    }
-    n + i
+    let end = n + message.len();
+    messages[n..end].copy_from_slice(message);
+    end
 }
 
 // The entries, and the messages, end to end.
@@ -242,24 +226,20 @@ fn write(recording: &[u8], list: &mut [usize], messages: &mut [u8])
     }
 }
 
-#[derive(Clone, Copy)]
-pub enum Recorded {
-    // how many entries
-    Entries(usize),
-    // 9
-    Refused(u8),
-}
-
 // Reads a recording: an entry of three numbers for each answer goes to the list, and the messages to `messages`, with nothing
-// between them. 9 for fewer places than entries, or fewer bytes than the messages have.
-pub fn read_recording(recording: &[u8], list: &mut [usize], messages: &mut [u8]) -> Recorded
+// between them; how many entries. 9 for fewer places than entries, or fewer bytes than the messages have.
+pub fn read_recording(
+    recording: &[u8],
+    list: &mut [usize],
+    messages: &mut [u8],
+) -> Result<usize, Refusal>
     ensures { ReadRecording recording.now list.old messages.old result list.new messages.new }
 {
     // first what is needed: with 9 nothing may be written
     let needed = measure(recording);
     if (list.len() / 3 < needed.entries) | (messages.len() < needed.bytes) {
-        return Recorded::Refused(9);
+        return Err(Refusal::NoRoom);
     }
     write(recording, list, messages);
-    Recorded::Entries(needed.entries)
+    Ok(needed.entries)
 }

@@ -219,7 +219,8 @@ fn is_between(n: i32, low: i32, high: i32) -> bool
     (low..=high).contains(&n)
 }
 
-// The numbers that stand in the bytes for the fields with a sign, a mark or a name.
+// The numbers that stand in the bytes for the fields with a sign, a mark or a name. Flags are numbers here as the rest: as `bool`s they
+// were tested going in and turned back into numbers going out, which is no plainer.
 #[derive(Clone, Copy)]
 struct Codes {
     latitude: u32,

@@ -1,8 +1,8 @@
 // A tally of collecting's answers, lent by the caller: how often each was given (RULES 'Tally').
 #![tactic(auto)]
 
-ghost use Rattle.std.specs.Prelude.{◌≡◌, ◌+◌, min};
-ghost use Rattle.tallying.specs.Tally.{hold, zero, raised_at, tallied};
+ghost use Rattle.std.specs.Prelude.{◌≡◌};
+ghost use Rattle.tallying.specs.Tally.{zero, raised_at, tallied};
 
 use collecting::Answer;
 
@@ -33,25 +33,17 @@ pub fn raised(tally: Tally, answer: Answer) -> Tally
     }
 }
 
-// One more of answer n.
+// One more of answer n, holding at 4,294,967,295.
+#[tactic(auto, using(crate::proofs::Counting::no_count, crate::proofs::Counting::goes_up))]
 fn raised_at(tally: Tally, n: u8) -> Tally
     ensures { result ≡ raised_at tally n }
 {
-    let i = n as usize;
-    if 6 <= i {
-        return tally;
-    }
     let mut next = tally;
-    let count = next.counts[i];
-    next.counts[i] = one_more(count);
+    let i = usize::from(n);
+    if i < 6 {
+        next.counts[i] = next.counts[i].saturating_add(1);
+    }
     next
-}
-
-// Holding at 4,294,967,295.
-fn one_more(count: u32) -> u32
-    ensures { result ≡ min (count + 1) hold }
-{
-    if count < 4294967295 { count + 1 } else { count }
 }
 
 // The same in the caller's tally.

@@ -31,6 +31,7 @@ pub struct TerrainFeet {
     pub feet: i16,
 }
 
+// Three ways to feet and no trait over them: each unit has a formula of its own, and nothing takes whichever unit comes.
 impl PressureSteps {
     pub fn feet(self) -> i32
         ensures { result ≡ pressure_feet self }

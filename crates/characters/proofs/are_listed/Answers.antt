@@ -1,14 +1,13 @@
--- `characters::are_listed` meets its contract. The loop's invariant: what was seen and what is left decide.
+-- `characters::are_listed` meets its contract.
 -- Assumes nothing.
-use mathlib.Core.Path.{◌∙◌}
-use native.Mathlib.Omega.{arith}
+use Rattle.std.proofs.Common.{◌∙◌, arith}
 use Rattle.characters.proofs.Listed.{listed_next, listed_all}
 use Rattle.characters.proofs.are_listed.Goals as goal
 
-pub loop-i-preserved : goal.loop-i-preserved
-loop-i-preserved c =
-    let l = c.loop-i in
-    (omega arith, listed_next l.all _ l.i _ (omega arith) c.is_listed-all.ensures ∙ l.invariant.1)
+pub loop-byte-preserved : goal.loop-byte-preserved
+loop-byte-preserved c =
+    let l = c.loop-byte in
+    listed_next l.all _ l.byte-index _ (omega arith) c.is_listed-all.ensures ∙ l.invariant
 
 pub returns : goal.returns
-returns c = let l = c.loop-i in listed_all l.all _ l.i (omega arith) ∙ l.invariant.1
+returns c = let l = c.loop-byte in listed_all l.all _ l.byte-index (omega arith) ∙ l.invariant

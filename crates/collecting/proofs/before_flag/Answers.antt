@@ -1,17 +1,11 @@
--- `collecting::before_flag` meets its contract. The loop's invariant: the bytes passed stand before the first flag.
+-- `collecting::before_flag` meets its contract.
 -- Assumes nothing.
-use native.Mathlib.Omega.{arith}
-use Rattle.collecting.proofs.Filling.{unflagged_end, unflagged_flag, unflagged_more}
+use Rattle.std.proofs.Common.{◌∙◌, ap, length, Option, ℕ}
+use Rattle.std.specs.Option.{unwrap_or}
+use Rattle.collecting.proofs.Searching.{first_flag}
 use Rattle.collecting.proofs.before_flag.Goals as goal
-
-pub returns-then-bytes-i-eq126 : goal.returns-then-bytes-i-eq126
-returns-then-bytes-i-eq126 c =
-    omega (arith, c.loop-i.invariant, unflagged_flag c.args.bytes.now c.loop-i.i (omega arith) c.if-bytes-i-eq126.true)
-
-pub loop-i-preserved : goal.loop-i-preserved
-loop-i-preserved c =
-    omega (arith, c.loop-i.invariant, unflagged_more c.args.bytes.now c.loop-i.i (omega arith) c.if-bytes-i-eq126.false)
 
 pub returns : goal.returns
 returns c =
-    omega (arith, c.loop-i.invariant, unflagged_end c.args.bytes.now c.loop-i.i (omega arith))
+    let bs = c.args.bytes.now in
+    c.unwrap_or.ensures ∙ ap (λ (i : Option ℕ). unwrap_or i (length bs)) c.first_flag.ensures ∙ first_flag bs

@@ -8,7 +8,7 @@ use Rattle.collecting.proofs.step.Goals as goal
 pub returns-then-is_over : goal.returns-then-is_over
 returns-then-is_over c =
     let a = c.args in
-    step_over (held a.control a.room.now) a.message.now a.byte (sym c.is_over.ensures ∙ c.if-is_over.true) _ c.restarted-control.ensures
+    step_over (held a.control a.room.now) a.message.now a.byte (sym c.is_over.ensures ∙ c.if-is_over.true) _ c.restarted.ensures
 
 pub returns-then-byte-eq126 : goal.returns-then-byte-eq126
 returns-then-byte-eq126 c =

@@ -1,10 +1,10 @@
 -- `fcs::unpaired_byte` meets its contract.
 -- Assumes nothing.
-use Rattle.fcs.proofs.Pairwise.{even_front, odd_front}
+use Rattle.fcs.proofs.Pairwise.{no_byte, one_byte}
 use Rattle.fcs.proofs.unpaired_byte.Goals as goal
 
-pub returns-then-message-eq0 : goal.returns-then-message-eq0
-returns-then-message-eq0 c = even_front c.args.message.now c.if-message-eq0.true
+pub returns-in-empty : goal.returns-in-empty
+returns-in-empty c = no_byte c.args.unpaired.now c.in-empty.len_below
 
-pub returns : goal.returns
-returns c = odd_front c.args.message.now c.if-message-eq0.false (c.shared_slice_known-1.given 0).fits
+pub returns-in-len1-up : goal.returns-in-len1-up
+returns-in-len1-up c = one_byte c.args.unpaired.now c.in-len1-up.len_at_least c.requires (c.type_inv.unpaired 0).fits

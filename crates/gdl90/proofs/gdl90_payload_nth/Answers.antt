@@ -7,5 +7,5 @@ use Rattle.gdl90.proofs.gdl90_payload_nth.Goals as goal
 
 pub overflow_add-result : goal.overflow_add-result
 overflow_add-result c =
-    let i = inside _ _ _ (sym c.nth.ensures ∙ c.in-Frame.is) in
+    let i = inside _ _ _ (sym c.nth.ensures ∙ c.in-Ok.is) in
     omega arith

@@ -3,7 +3,7 @@
 use mathlib.Core.Path.{sym, ◌∙◌}
 use native.Mathlib.Omega.{arith}
 use Rattle.numbers.proofs.Storing.{then}
-use Rattle.generic_text.proofs.Putting.{packed-length, last_room, all_put}
+use Rattle.generic_text.proofs.Putting.{packed-length}
 use Rattle.generic_text.proofs.Answering.{encode-length, write_wide, write_lacking, write_full, write_done}
 use Rattle.generic_text.proofs.write.Goals as goal
 
@@ -16,19 +16,14 @@ returns-then-not-are_listed c = write_lacking _ _ _ _ _ (sym c.is_fit.ensures �
 pub returns-then-out-codes : goal.returns-then-out-codes
 returns-then-out-codes c = write_full _ _ _ _ _ (sym c.is_fit.ensures ∙ c.if-not-is_fit.false) (sym c.are_listed.ensures ∙ c.if-not-are_listed.false) c.if-out-codes.true
 
-pub put_fours-at-requires : goal.put_fours-at-requires
-put_fours-at-requires c = (
+pub put_codes-requires : goal.put_codes-requires
+put_codes-requires c = (
   omega (arith, packed-length c.args.text.now, c.if-out-codes.false, c.put_header.auto.out),
   sym c.are_listed.ensures ∙ c.if-not-are_listed.false,
 )
-
-pub put_last-requires : goal.put_last-requires
-put_last-requires c =
-    let p = c.put_fours-at in
-    (last_room p.ensures _ (omega (arith, packed-length c.args.text.now, c.if-out-codes.false, c.put_header.auto.out, p.auto.out)), sym c.are_listed.ensures ∙ c.if-not-are_listed.false)
 
 pub returns : goal.returns
 returns c =
     write_done _ _ _ _ _ (sym c.is_fit.ensures ∙ c.if-not-is_fit.false) (sym c.are_listed.ensures ∙ c.if-not-are_listed.false) _ _
     (omega (arith, encode-length c.args.hours c.args.minutes c.args.padding c.args.text.now c.args.out.now, c.if-out-codes.false))
-    (then c.put_header.ensures (all_put c.put_fours-at.ensures c.put_last.ensures))
+    (then c.put_header.ensures c.put_codes.ensures)
