@@ -2,7 +2,7 @@
 -- number; 1, none; 2, over (of a climb, above); 3, below. With a mark the field is 0, and it is not looked at on the way back. Any other
 -- number is no mark: the way back then gives the field a number that writing refuses with 8.
 -- Assumes nothing.
-use Rattle.std.specs.Prelude.{ℕ, cond, false, eqb, ℤ, pos, Option, Some, None, Result, Ok, Err}
+use Rattle.std.specs.Prelude.{ℕ, cond, eqb, ℤ, pos, Option, Some, None}
 use Rattle.units.specs.declared.PressureSteps.{PressureSteps}
 use Rattle.message_types.specs.declared.Position.{Position}
 use Rattle.message_types.specs.declared.TrackKind.{TrackKind}
@@ -12,10 +12,7 @@ use Rattle.message_types.specs.declared.Speed.TheVariants as speed
 use Rattle.message_types.specs.declared.Climb.{Climb}
 use Rattle.message_types.specs.declared.Climb.TheVariants as climb
 use Rattle.message_types.specs.declared.Report.{Report}
-use Rattle.refusals.specs.declared.Refusal.{Refusal}
-use Rattle.refusals.specs.Numbers.{refusal_number}
 use Rattle.c_report.specs.declared.FlatReport.{FlatReport}
-use Rattle.c_report.specs.declared.FlatReportRead.{FlatReportRead}
 
 abbrev pub position_mark : Option Position → ℕ
 position_mark (Some p) = 0
@@ -133,34 +130,3 @@ report_from f = record {
   priority = f.priority;
   spare = f.spare;
 }
-
-abbrev pub zero_report : FlatReport
-zero_report = record {
-  alert = 0;
-  address_type = 0;
-  address = 0;
-  position_mark = 0;
-  latitude = pos 0;
-  longitude = pos 0;
-  altitude_mark = 0;
-  altitude = record { steps = 0 };
-  track_kind = 0;
-  extrapolated = false;
-  airborne = false;
-  integrity = 0;
-  accuracy = 0;
-  speed_mark = 0;
-  speed = 0;
-  climb_mark = 0;
-  climb = pos 0;
-  track = 0;
-  emitter = 0;
-  call_sign = record { 0 = 0; 1 = 0; 2 = 0; 3 = 0; 4 = 0; 5 = 0; 6 = 0; 7 = 0 };
-  priority = 0;
-  spare = 0;
-}
-
--- the number and the report, which is all zero with a refusal
-abbrev pub report_answer : Result FlatReport Refusal → FlatReportRead
-report_answer (Ok report) = record { number = 0; report = report }
-report_answer (Err refusal) = record { number = refusal_number refusal; report = zero_report }

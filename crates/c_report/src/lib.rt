@@ -2,10 +2,9 @@
 #![tactic(auto)]
 
 ghost use Rattle.std.specs.Prelude.{◌≡◌};
-ghost use Rattle.c_report.specs.Flat.{position_from, altitude_from, track_number, track_from, speed_from, climb_from, report_from, report_answer};
+ghost use Rattle.c_report.specs.Flat.{position_from, altitude_from, track_number, track_from, speed_from, climb_from, report_from};
 
 use message_types::{CallSign, Climb, Position, Report, Speed, TrackKind};
-use refusals::Refusal;
 use units::PressureSteps;
 
 // C's struct: a mark stands in front of its field, and a kind is its number.
@@ -42,20 +41,6 @@ pub struct FlatReport {
 pub struct FlatReportRead {
     pub number: u8,
     pub report: FlatReport,
-}
-
-impl From<Result<FlatReport, Refusal>> for FlatReportRead {
-    ghost from_gives = { λ read answer. answer ≡ report_answer read };
-
-    fn from(read: Result<FlatReport, Refusal>) -> FlatReportRead {
-        match read {
-            Ok(report) => FlatReportRead { number: 0, report },
-            Err(refusal) => FlatReportRead {
-                number: refusal.number(),
-                report: FlatReport::default(),
-            },
-        }
-    }
 }
 
 // A mark that no field has gives the field a number that writing refuses with 8.

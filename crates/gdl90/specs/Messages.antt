@@ -1,8 +1,9 @@
 -- What reading and writing one kind answer, as C has it (RULES 'Structs for C'): the number, and the struct or the length, which are zero with a refusal.
 -- Assumes nothing.
-use Rattle.std.specs.Prelude.{◌≡◌, ℕ, Bool, cond, ◌&&◌, List, eqb, leb, length, get_or}
+use Rattle.std.specs.Prelude.{◌≡◌, ℕ, Bool, false, cond, ◌&&◌, List, eqb, leb, length, get_or, pos, Result, Ok, Err}
 use Rattle.numbers.specs.Lent.{written}
-use Rattle.codec.specs.declared.Written.{Written}
+use Rattle.refusals.specs.declared.Refusal.{Refusal}
+use Rattle.refusals.specs.Numbers.{refusal_number}
 use Rattle.codec.specs.Writing.{written_number, written_size, written_output, writing}
 use Rattle.heartbeat.specs.Heartbeat.{good_heartbeat, heartbeat_bytes}
 use Rattle.initialization.specs.Initialization.{good_initialization, initialization_bytes}
@@ -19,6 +20,7 @@ use Rattle.messages.specs.Message.{kind_in, kind_number}
 use Rattle.gdl90.specs.declared.KindAnswer.{KindAnswer}
 use Rattle.gdl90.specs.declared.WriteAnswer.{WriteAnswer}
 use Rattle.c_report.specs.declared.FlatReport.{FlatReport}
+use Rattle.c_report.specs.declared.FlatReportRead.{FlatReportRead}
 use Rattle.c_structs.specs.declared.FlatUplink.{FlatUplink}
 use Rattle.c_structs.specs.declared.FlatHeight.{FlatHeight}
 use Rattle.c_structs.specs.declared.FlatGeometric.{FlatGeometric}
@@ -41,11 +43,42 @@ height_answer m = record { number = (height_read m).number; height = flat_height
 abbrev pub geometric_answer : List ℕ → FlatGeometricRead
 geometric_answer m = record { number = (geometric_read m).number; geometric = flat_geometric (geometric_read m).geometric }
 
-abbrev pub write_answer : Written → WriteAnswer
+abbrev pub zero_report : FlatReport
+zero_report = record {
+  alert = 0;
+  address_type = 0;
+  address = 0;
+  position_mark = 0;
+  latitude = pos 0;
+  longitude = pos 0;
+  altitude_mark = 0;
+  altitude = record { steps = 0 };
+  track_kind = 0;
+  extrapolated = false;
+  airborne = false;
+  integrity = 0;
+  accuracy = 0;
+  speed_mark = 0;
+  speed = 0;
+  climb_mark = 0;
+  climb = pos 0;
+  track = 0;
+  emitter = 0;
+  call_sign = record { 0 = 0; 1 = 0; 2 = 0; 3 = 0; 4 = 0; 5 = 0; 6 = 0; 7 = 0 };
+  priority = 0;
+  spare = 0;
+}
+
+-- the number and the report, which is all zero with a refusal
+abbrev pub report_answer : Result FlatReport Refusal → FlatReportRead
+report_answer (Ok report) = record { number = 0; report = report }
+report_answer (Err refusal) = record { number = refusal_number refusal; report = zero_report }
+
+abbrev pub write_answer : Result ℕ Refusal → WriteAnswer
 write_answer w = record { number = written_number w; length = written_size w }
 
 -- what a way of writing answers and leaves
-pub record AnsweredBy (w : Written) (bytes out : List ℕ) (answer : WriteAnswer) (left : List ℕ) : Type 0 where
+pub record AnsweredBy (w : Result ℕ Refusal) (bytes out : List ℕ) (answer : WriteAnswer) (left : List ℕ) : Type 0 where
   pub answers : answer ≡ write_answer w
   pub leaves : left ≡ written (written_output w bytes) out
 

@@ -1,7 +1,7 @@
 // The library's functions for C, and for Rust by way of C: thin, and with the library's own promises. crates/gdl90_c exports them.
 #![tactic(auto)]
 
-ghost use Rattle.std.specs.Prelude.{◌≡◌, length};
+ghost use Rattle.std.specs.Prelude.{◌≡◌, length, Err};
 ghost use Rattle.numbers.specs.Lent.{written};
 ghost use Rattle.fcs.specs.Fcs.{fcs};
 ghost use Rattle.framing.specs.Framing.{framing, framed_output};
@@ -9,8 +9,8 @@ ghost use Rattle.collecting.specs.Stream.{answer_number, message_length, positio
 ghost use Rattle.tallying.specs.Tally.{tallied};
 ghost use Rattle.heartbeat.specs.Heartbeat.{heartbeat_read};
 ghost use Rattle.initialization.specs.Initialization.{initialization_read};
-ghost use Rattle.report.specs.Reading.{ownship_read, traffic_read};
-ghost use Rattle.gdl90.specs.Messages.{kind_answer, uplink_answer, height_answer, geometric_answer, write_answer};
+ghost use Rattle.report.specs.Reading.{report_read, ownship_read, traffic_read};
+ghost use Rattle.gdl90.specs.Messages.{report_answer, kind_answer, uplink_answer, height_answer, geometric_answer, write_answer};
 ghost use Rattle.gdl90.specs.Messages.{WritesHeartbeat, WritesInitialization, WritesUplink, WritesHeight, WritesReport, WritesOwnship, WritesGeometric, WritesTraffic};
 ghost use Rattle.messages.specs.Message.{kind_number};
 ghost use Rattle.information_frames.specs.Walk.{payload_frames};
@@ -29,7 +29,6 @@ use c_report::{FlatReport, FlatReportRead};
 use c_structs::{
     FlatGeometric, FlatGeometricRead, FlatHeight, FlatHeightRead, FlatUplink, FlatUplinkRead,
 };
-use codec::Written;
 use collecting::{Answer, Control, Fed, Phase};
 use generic_text::TextReading;
 use information_frames::{Added, Found, FrameList};
@@ -348,9 +347,9 @@ pub fn gdl90_read_height(message: &[u8]) -> FlatHeightRead
 }
 
 pub fn gdl90_read_ownship(message: &[u8]) -> FlatReportRead
-    ensures { result ≡ ownship_read message.now }
+    ensures { result ≡ report_answer (ownship_read message.now) }
 {
-    report::read_ownship(message)
+    read_report(Ownship::ID, message)
 }
 
 pub fn gdl90_read_geometric(message: &[u8]) -> FlatGeometricRead
@@ -366,9 +365,29 @@ pub fn gdl90_read_geometric(message: &[u8]) -> FlatGeometricRead
 }
 
 pub fn gdl90_read_traffic(message: &[u8]) -> FlatReportRead
-    ensures { result ≡ traffic_read message.now }
+    ensures { result ≡ report_answer (traffic_read message.now) }
 {
-    report::read_traffic(message)
+    read_report(Traffic::ID, message)
+}
+
+// Of either kind. A refusal has its own way out: joined with the other, the report went through memory, in 1.4 times the time.
+fn read_report(id: u8, message: &[u8]) -> FlatReportRead
+    ensures { result ≡ report_answer (report_read id message.now) }
+{
+    let report = match report::read_report(message, id) {
+        Ok(report) => report,
+        Err(refusal) => return report_refused(refusal),
+    };
+    FlatReportRead { number: 0, report }
+}
+
+fn report_refused(refusal: Refusal) -> FlatReportRead
+    ensures { result ≡ report_answer (Err refusal) }
+{
+    FlatReportRead {
+        number: refusal.number(),
+        report: FlatReport::default(),
+    }
 }
 
 // The number, and how many bytes were written, 0 with a refusal.
@@ -431,26 +450,26 @@ pub fn gdl90_write_traffic(report: FlatReport, out: &mut [u8]) -> WriteAnswer
 }
 
 // Of either kind.
+#[tactic(auto, unfolding(codec::specs::Writing::writing, numbers::specs::Lent::written))]
 fn write_report(id: u8, flat: FlatReport, out: &mut [u8]) -> WriteAnswer
     ensures { WritesReport id flat out.old result out.new }
 {
-    if flat.track_kind <= LAST_TRACK_KIND {
-        let report = c_report::report_from(flat);
-        let written = report::write_report(id, report, out);
-        return write_answer(written);
+    if flat.track_kind > LAST_TRACK_KIND {
+        return write_answer(Err(Refusal::BadField));
     }
-    WriteAnswer {
-        number: 8,
-        length: 0,
-    }
+    let report = c_report::report_from(flat);
+    write_answer(report::write_report(id, report, out))
 }
 
-fn write_answer(written: Written) -> WriteAnswer
+fn write_answer(written: Result<usize, Refusal>) -> WriteAnswer
     ensures { result ≡ write_answer written }
 {
     match written {
-        Written::Bytes(length) => WriteAnswer { number: 0, length },
-        Written::Refused(number) => WriteAnswer { number, length: 0 },
+        Ok(length) => WriteAnswer { number: 0, length },
+        Err(refusal) => WriteAnswer {
+            number: refusal.number(),
+            length: 0,
+        },
     }
 }
 

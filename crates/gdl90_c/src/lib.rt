@@ -9,7 +9,7 @@ ghost use Rattle.tallying.specs.Tally.{tallied};
 ghost use Rattle.heartbeat.specs.Heartbeat.{heartbeat_read};
 ghost use Rattle.initialization.specs.Initialization.{initialization_read};
 ghost use Rattle.report.specs.Reading.{ownship_read, traffic_read};
-ghost use Rattle.gdl90.specs.Messages.{kind_answer, uplink_answer, height_answer, geometric_answer};
+ghost use Rattle.gdl90.specs.Messages.{report_answer, kind_answer, uplink_answer, height_answer, geometric_answer};
 ghost use Rattle.gdl90.specs.Messages.{WritesHeartbeat, WritesInitialization, WritesUplink, WritesHeight, WritesOwnship, WritesGeometric, WritesTraffic};
 ghost use Rattle.information_frames.specs.Walk.{payload_frames};
 ghost use Rattle.information_frames.specs.Answers.{frame_list, nth_frame};
@@ -123,7 +123,7 @@ pub extern "C" fn gdl90_read_height(message: &[u8]) -> FlatHeightRead
 
 #[unsafe(no_mangle)]
 pub extern "C" fn gdl90_read_ownship(message: &[u8]) -> FlatReportRead
-    ensures { result ≡ ownship_read message.now }
+    ensures { result ≡ report_answer (ownship_read message.now) }
 {
     gdl90::gdl90_read_ownship(message)
 }
@@ -137,7 +137,7 @@ pub extern "C" fn gdl90_read_geometric(message: &[u8]) -> FlatGeometricRead
 
 #[unsafe(no_mangle)]
 pub extern "C" fn gdl90_read_traffic(message: &[u8]) -> FlatReportRead
-    ensures { result ≡ traffic_read message.now }
+    ensures { result ≡ report_answer (traffic_read message.now) }
 {
     gdl90::gdl90_read_traffic(message)
 }

@@ -10,19 +10,18 @@ use lib.ListN.{length, get_or}
 use borrow.Author.Tests.{ne_eqb}
 use Rattle.numbers.proofs.Every.{chosen}
 use Rattle.codec.specs.Reading.{reading}
-use Rattle.codec.proofs.Outcomes.{both_answers}
+use Rattle.codec.proofs.Outcomes.{each_answer}
 use Rattle.message_types.specs.declared.Message.{Message}
-use Rattle.message_types.specs.declared.Reading.TheVariants.{Message as Accepted, Refused}
 use Rattle.messages.specs.declared.Kind.{Kind}
 use Rattle.messages.specs.declared.Kind.TheVariants as kind
-use Rattle.messages.specs.Message.{kind_of, kind_in, kind_number, read_as, read_message, reading_number}
+use Rattle.messages.specs.Message.{kind_of, kind_in, kind_number, as_message, read_as, read_message, reading_number}
 use Rattle.messages.specs.Claims.{Retired, basic, long, RetiredIs17}
 
 -- the reader of a kind never answers 17
 never : {X : Type 0} (id size : ℕ) (value : List ℕ → X) (good : X → Bool) (wrap : X → Message) (m : List ℕ)
-    → reading_number (reading id size value good (λ x. Accepted (wrap x)) Refused m) ≡ 17 → ⊥
+    → reading_number (as_message wrap (reading id size value good m)) ≡ 17 → ⊥
 never id size value good wrap m =
-    both_answers id size value good (λ x. Accepted (wrap x)) Refused m (λ x. Accepted (wrap x)) Refused (λ r s. reading_number r ≡ 17 → ⊥)
+    each_answer id size value good m (λ r. reading_number (as_message wrap r) ≡ 17 → ⊥)
     (λ x z. omega arith) (λ z. omega arith) (λ z. omega arith) (λ z. omega arith)
 
 -- so 17 is answered for the retired kind alone

@@ -1,12 +1,12 @@
 -- Demand 2 (RULES 'Demands') for messages, over all seven kinds at once; and exactly which messages are retired.
 -- Assumes nothing.
-use Rattle.std.specs.Prelude.{◌≡◌, ℕ, ◌<◌, true, List, [], ◌∷◌, drop}
+use Rattle.std.specs.Prelude.{◌≡◌, ℕ, ◌<◌, true, List, [], ◌∷◌, drop, Err}
 use Rattle.std.specs.Int.Signed.{mag}
 use Rattle.numbers.specs.Bytes.{AreBytes}
 use Rattle.message_types.specs.declared.Message.{Message}
 use Rattle.message_types.specs.declared.Message.TheVariants.{Heartbeat, Initialization, Uplink, Height, Ownship, Geometric, Traffic}
 use Rattle.altitudes.specs.Claims.{TypedHeight}
-use Rattle.message_types.specs.declared.Reading.TheVariants.{Refused}
+use Rattle.refusals.specs.declared.Refusal.TheVariants.{RetiredId}
 use Rattle.uplink.specs.Uplink.{payload_of}
 use Rattle.messages.specs.Message.{message_bytes, good_message, good_payload, carried, read_message, reading_number, reading_value}
 
@@ -47,4 +47,4 @@ pub data Retired : List ℕ → Type 0 where
 
 -- each is answered 17, and nothing else is
 abbrev pub RetiredIs17 : Type 0
-RetiredIs17 = (m : List ℕ) → (Retired m → read_message m ≡ Refused 17) × (reading_number (read_message m) ≡ 17 → Retired m)
+RetiredIs17 = (m : List ℕ) → (Retired m → read_message m ≡ Err RetiredId) × (reading_number (read_message m) ≡ 17 → Retired m)

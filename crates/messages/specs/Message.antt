@@ -1,17 +1,16 @@
 -- The seven kinds of message together (001 §3, Table 2; RULES 'Messages', 'Retired ids').
 -- Assumes nothing.
-use Rattle.std.specs.Prelude.{◌≡◌, ℕ, Bool, true, cond, List, [], ◌∷◌, eqb, length, get_or}
+use Rattle.std.specs.Prelude.{◌≡◌, ℕ, Bool, true, cond, List, [], ◌∷◌, eqb, length, get_or, Result, Ok, Err}
 use Rattle.numbers.specs.Lent.{written}
-use Rattle.codec.specs.declared.Written.{Written}
-use Rattle.codec.specs.declared.Written.TheVariants.{Refused as NotWritten}
+use Rattle.refusals.specs.declared.Refusal.{Refusal}
+use Rattle.refusals.specs.declared.Refusal.TheVariants.{OtherId, WrongLength, RetiredId}
+use Rattle.refusals.specs.Numbers.{refusal_number}
 use Rattle.codec.specs.Writing.{writing, written_output}
 use Rattle.message_types.specs.declared.Message.{Message}
 use Rattle.message_types.specs.declared.Message.TheVariants.{Heartbeat, Initialization, Uplink, Height, Ownship, Geometric, Traffic}
-use Rattle.message_types.specs.declared.Reading.{Reading}
-use Rattle.message_types.specs.declared.Reading.TheVariants.{Message as Accepted, Refused}
 use Rattle.heartbeat.specs.Heartbeat.{good_heartbeat, heartbeat_bytes, read_heartbeat}
 use Rattle.initialization.specs.Initialization.{good_initialization, initialization_bytes, read_initialization}
-use Rattle.altitudes.specs.Height.{good_terrain, terrain_bytes, read_terrain}
+use Rattle.altitudes.specs.Height.{good_terrain, terrain_bytes, read_height}
 use Rattle.altitudes.specs.Geometric.{good_geometric, geometric_bytes, read_geometric}
 use Rattle.uplink.specs.Uplink.{good_uplink, uplink_bytes, read_uplink}
 use Rattle.report.specs.Bytes.{ownship_bytes, traffic_bytes}
@@ -48,33 +47,34 @@ kind_number kind.Traffic = 0
 kind_number kind.Retired = 17
 kind_number kind.Unknown = 6
 
-abbrev pub read_as : Kind → List ℕ → Reading
-read_as kind.Heartbeat m = read_heartbeat m
-read_as kind.Initialization m = read_initialization m
-read_as kind.Uplink m = read_uplink m
-read_as kind.Height m = read_terrain m
-read_as kind.Ownship m = read_ownship m
-read_as kind.Geometric m = read_geometric m
-read_as kind.Traffic m = read_traffic m
-read_as kind.Retired m = Refused 17
-read_as kind.Unknown m = Refused 6
+-- a kind's answer as that of a message
+abbrev pub as_message : {X : Type 0} → (X → Message) → Result X Refusal → Result Message Refusal
+as_message wrap (Ok x) = Ok (wrap x)
+as_message wrap (Err refusal) = Err refusal
+
+abbrev pub read_as : Kind → List ℕ → Result Message Refusal
+read_as kind.Heartbeat m = as_message Heartbeat (read_heartbeat m)
+read_as kind.Initialization m = as_message Initialization (read_initialization m)
+read_as kind.Uplink m = as_message Uplink (read_uplink m)
+read_as kind.Height m = as_message Height (read_height m)
+read_as kind.Ownship m = as_message Ownship (read_ownship m)
+read_as kind.Geometric m = as_message Geometric (read_geometric m)
+read_as kind.Traffic m = as_message Traffic (read_traffic m)
+read_as kind.Retired m = Err RetiredId
+read_as kind.Unknown m = Err OtherId
 
 -- 6 for an empty message or an id that is neither in the list nor retired; then 17 for a retired id, of whatever length; else as of the kind
-unfoldable pub read_message : List ℕ → Reading
+unfoldable pub read_message : List ℕ → Result Message Refusal
 read_message m = read_as (kind_in m) m
 
--- a kind's answer as a reading
-abbrev pub as_reading : ℕ → Message → Reading
-as_reading k x = cond (eqb k 0) (Accepted x) (Refused k)
+-- the number and the value for each answer: a refusal carries only the number
+abbrev pub reading_number : Result Message Refusal → ℕ
+reading_number (Ok x) = 0
+reading_number (Err refusal) = refusal_number refusal
 
--- the number and the value for each case of a reading: a refusal carries only the number
-abbrev pub reading_number : Reading → ℕ
-reading_number (Accepted x) = 0
-reading_number (Refused k) = k
-
-abbrev pub reading_value : Reading → List Message
-reading_value (Accepted x) = x ∷ []
-reading_value (Refused k) = []
+abbrev pub reading_value : Result Message Refusal → List Message
+reading_value (Ok x) = x ∷ []
+reading_value (Err refusal) = []
 
 -- the bytes of a message; an uplink's payload is given beside it
 abbrev pub message_bytes : Message → List ℕ → List ℕ
@@ -117,9 +117,9 @@ carried (Geometric x) payload = []
 carried (Traffic x) payload = []
 
 -- 7 for an uplink's payload, then 8, then 9
-unfoldable pub writing_message : Message → List ℕ → ℕ → Written
-writing_message x payload room = cond (good_payload x payload) (writing (good_message x) (message_bytes x payload) room) (NotWritten 7)
+unfoldable pub writing_message : Message → List ℕ → ℕ → Result ℕ Refusal
+writing_message x payload room = cond (good_payload x payload) (writing (good_message x) (message_bytes x payload) room) (Err WrongLength)
 
-pub record WroteMessage (x : Message) (payload out : List ℕ) (answer : Written) (left : List ℕ) : Type 0 where
+pub record WroteMessage (x : Message) (payload out : List ℕ) (answer : Result ℕ Refusal) (left : List ℕ) : Type 0 where
   pub answers : answer ≡ writing_message x payload (length out)
   pub leaves : left ≡ written (written_output answer (message_bytes x payload)) out

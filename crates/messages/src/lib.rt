@@ -2,13 +2,14 @@
 #![tactic(auto)]
 
 ghost use Rattle.std.specs.Prelude.{◌≡◌};
-ghost use Rattle.messages.specs.Message.{kind_of, kind_in, read_as, as_reading, read_message, WroteMessage};
+ghost use Rattle.report.specs.Reading.{read_ownship, read_traffic};
+ghost use Rattle.messages.specs.Message.{kind_of, kind_in, read_as, read_message, WroteMessage};
 
-use codec::Written;
 use message_types::{
-    GeometricAltitude, Heartbeat, HeightAboveTerrain, Initialization, Message, Ownship, Reading,
-    Traffic, Uplink,
+    GeometricAltitude, Heartbeat, HeightAboveTerrain, Initialization, Message, Ownship, Traffic,
+    Uplink,
 };
+use refusals::Refusal;
 
 // The ids of basic and long pass-through (001 §3.6), which are retired.
 const BASIC_PASS_THROUGH: u8 = 30;
@@ -16,7 +17,7 @@ const BASIC_PASS_THROUGH: u8 = 30;
 const LONG_PASS_THROUGH: u8 = 31;
 
 // What an id says.
-#[derive(Clone, Copy)]
+#[derive(Clone, Copy, Debug, PartialEq, Eq)]
 pub enum Kind {
     Heartbeat,
     Initialization,
@@ -31,13 +32,15 @@ pub enum Kind {
 }
 
 // The typed value of a message. An uplink's payload is `uplink::payload` of it.
-pub fn read(message: &[u8]) -> Reading
+#[tactic(auto, unfolding(crate::specs::Message::read_message))]
+pub fn read(message: &[u8]) -> Result<Message, Refusal>
     ensures { result ≡ read_message message.now }
 {
     read_as(kind_in(message), message)
 }
 
 // The kind whose id is the message's first byte.
+#[tactic(auto, unfolding(crate::specs::Message::kind_in))]
 pub fn kind_in(message: &[u8]) -> Kind
     ensures { result ≡ kind_in message.now }
 {
@@ -64,64 +67,43 @@ fn kind_of(id: u8) -> Kind
     }
 }
 
-fn read_as(kind: Kind, message: &[u8]) -> Reading
+fn read_as(kind: Kind, message: &[u8]) -> Result<Message, Refusal>
     ensures { result ≡ read_as kind message.now }
 {
     match kind {
-        Kind::Heartbeat => {
-            let read = heartbeat::read_heartbeat(message);
-            let heartbeat = read.heartbeat;
-            as_reading(read.number, Message::Heartbeat(heartbeat))
-        }
+        Kind::Heartbeat => heartbeat::read_heartbeat(message).map(Message::Heartbeat),
         Kind::Initialization => {
-            let read = initialization::read_initialization(message);
-            let initialization = read.initialization;
-            as_reading(read.number, Message::Initialization(initialization))
+            initialization::read_initialization(message).map(Message::Initialization)
         }
-        Kind::Uplink => {
-            let read = uplink::read_uplink(message);
-            let uplink = read.uplink;
-            as_reading(read.number, Message::Uplink(uplink))
-        }
-        Kind::Height => {
-            let read = altitudes::read_height(message);
-            let height = read.height;
-            as_reading(read.number, Message::Height(height))
-        }
-        Kind::Ownship => {
-            let read = report::read_ownship(message);
-            let flat = read.report;
-            let report = c_report::report_from(flat);
-            as_reading(read.number, Message::Ownship(Ownship { report }))
-        }
-        Kind::Geometric => {
-            let read = altitudes::read_geometric(message);
-            let geometric = read.geometric;
-            as_reading(read.number, Message::Geometric(geometric))
-        }
-        Kind::Traffic => {
-            let read = report::read_traffic(message);
-            let flat = read.report;
-            let report = c_report::report_from(flat);
-            as_reading(read.number, Message::Traffic(Traffic { report }))
-        }
-        Kind::Retired => Reading::Refused(17),
-        Kind::Unknown => Reading::Refused(6),
+        Kind::Uplink => uplink::read_uplink(message).map(Message::Uplink),
+        Kind::Height => altitudes::read_height(message).map(Message::Height),
+        Kind::Ownship => read_ownship(message).map(Message::Ownship),
+        Kind::Geometric => altitudes::read_geometric(message).map(Message::Geometric),
+        Kind::Traffic => read_traffic(message).map(Message::Traffic),
+        Kind::Retired => Err(Refusal::RetiredId),
+        Kind::Unknown => Err(Refusal::OtherId),
     }
 }
 
-fn as_reading(number: u8, message: Message) -> Reading
-    ensures { result ≡ as_reading number message }
+#[tactic(auto, using(crate::proofs::Dispatch::ownship_ok, crate::proofs::Dispatch::ownship_err))]
+fn read_ownship(message: &[u8]) -> Result<Ownship, Refusal>
+    ensures { result ≡ read_ownship message.now }
 {
-    if number == 0 {
-        Reading::Message(message)
-    } else {
-        Reading::Refused(number)
-    }
+    let report = c_report::report_from(report::read_ownship(message)?);
+    Ok(Ownship { report })
+}
+
+#[tactic(auto, using(crate::proofs::Dispatch::traffic_ok, crate::proofs::Dispatch::traffic_err))]
+fn read_traffic(message: &[u8]) -> Result<Traffic, Refusal>
+    ensures { result ≡ read_traffic message.now }
+{
+    let report = c_report::report_from(report::read_traffic(message)?);
+    Ok(Traffic { report })
 }
 
 // The bytes of a typed value. An uplink's payload is given beside it; of the other kinds it is not looked at.
-pub fn write(message: Message, payload: &[u8], out: &mut [u8]) -> Written
+#[tactic(auto, unfolding(crate::specs::Message::writing_message, uplink::specs::Uplink::writing_uplink))]
+pub fn write(message: Message, payload: &[u8], out: &mut [u8]) -> Result<usize, Refusal>
     ensures { WroteMessage message payload.now out.old result out.new }
 {
     match message {

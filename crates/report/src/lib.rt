@@ -39,9 +39,9 @@ pub fn read_traffic(message: &[u8]) -> Result<FlatReport, Refusal>
     read_report(message, Traffic::ID)
 }
 
-// Of either kind, both of which have 28 bytes.
+// Of the kind with this id, of either of which a message has 28 bytes.
 #[tactic(auto, unfolding(codec::specs::Reading::reading))]
-fn read_report(message: &[u8], id: u8) -> Result<FlatReport, Refusal>
+pub fn read_report(message: &[u8], id: u8) -> Result<FlatReport, Refusal>
     ensures { result ≡ report_read id message.now }
 {
     let bytes = codec::fit(message, id)?;
