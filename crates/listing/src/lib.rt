@@ -11,7 +11,6 @@ ghost use Rattle.listing.specs.Listing.{limit, longest, state, answer_line, repl
 ghost use Rattle.listing.specs.Listing.{opening, start, steady, counted, passed, holds, settled};
 
 use collecting::{Answer, Control};
-use message_types::Reading;
 
 // As many bytes are listed at most.
 pub const LIMIT: u64 = 4294967295;
@@ -280,15 +279,9 @@ fn read_number(message: &[u8], k: usize) -> u8
     requires { k ≤ length message.now }
     ensures { result ≡ reading_number (read_message (take k message.now)) }
 {
-    number_of(messages::read(&message[..k]))
-}
-
-fn number_of(reading: Reading) -> u8
-    ensures { result ≡ reading_number reading }
-{
-    match reading {
-        Reading::Message(_) => 0,
-        Reading::Refused(n) => n,
+    match messages::read(&message[..k]) {
+        Ok(_) => 0,
+        Err(refusal) => refusal.number(),
     }
 }
 
