@@ -100,6 +100,8 @@ pub fn process(lister: Lister, room: &mut [u8; 438], bytes: &[u8], out: &mut [u8
     let mut i = 0;
     let mut at = 0;
     let end = up_to_limit(l.lister.taken, bytes.len());
+    // each pass says how many bytes it took: no counted loop. The room of a line as `out[at..].first_chunk_mut::<LONGEST>()`, with no `at`
+    // handed on, was tried: left open was that a line stored at the front of that room is stored at `at`
     while LONGEST <= out.len() - at {
         let p = pass(l, room, &bytes[i..end]);
         l = p.l;
@@ -333,6 +335,7 @@ fn put_decimal(out: &mut [u8], at: usize, n: u64) -> usize
     ensures { Stored out.old at (decimal n) result out.new }
 {
     let end = at + digit_count(n);
+    // by what is left of the number: a `for` over the places needs the same two lines, and that 0 is left at the end
     let mut rest = n;
     let mut p = end - 1;
     while 10 <= rest {
