@@ -114,7 +114,8 @@ pub fn step(control: Control, room: &mut [u8; 438], message: &mut [u8; 436], byt
     }
 }
 
-// More than any stream leads to.
+// More than any stream leads to. What this test shows is a `requires` of four private functions: a struct with it as an invariant is
+// no plainer, as a byte may lead over it (879 stuffed ones), so that each of them would hand out a plain control again.
 fn is_over(control: Control) -> bool
     ensures { result ≡ over control }
 {
@@ -267,6 +268,7 @@ pub fn feed(control: Control, room: &mut [u8; 438], message: &mut [u8; 436], byt
 {
     let mut c = control;
     let mut i = 0;
+    // no `for`, as a turn takes all bytes up to a flag
     while i < bytes.len() {
         let f = through_flag(c, room, message, &bytes[i..]);
         i += f.taken;
@@ -331,6 +333,7 @@ pub fn fill(control: Control, room: &mut [u8; 438], bytes: &[u8]) -> Filled
 {
     let mut c = control;
     let mut n = 0;
+    // no `for`, as a turn takes a stretch
     while n < bytes.len() {
         if bytes[n] == 0x7E {
             return Filled {

@@ -169,7 +169,7 @@ fn measure(recording: &[u8]) -> Needed
     let mut room = [0u8; 438];
     let mut entries = 0;
     let mut bytes = 0;
-    // the lead-in ends at the first flag
+    // the lead-in ends at the first flag; a turn goes to the next one. Not by `split`, which hands out what no flag closes as well
     let mut i = part_end(recording, 0);
     while i < recording.len() {
         let part = answer_part(recording, i, &mut room);
