@@ -33,4 +33,5 @@ returns-in-Ok-clause-exact c =
 
 pub returns-in-Err-clause-exact : goal.returns-in-Err-clause-exact
 returns-in-Err-clause-exact c =
-    exact c.args.latitude c.args.longitude {d = Err c.in-Err.refusal} c.ranges.latitude c.ranges.longitude (sym c.in-Err.is ∙ c.in_degrees.ensures.value)
+    rw c.number.ensures
+    (exact c.args.latitude c.args.longitude {d = Err c.in-Err.refusal} c.ranges.latitude c.ranges.longitude (sym c.in-Err.is ∙ c.in_degrees.ensures.value))
