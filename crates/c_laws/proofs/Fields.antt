@@ -7,6 +7,7 @@ use native.Mathlib.Omega.{arith}
 use lib.Dec.{leb, ltb}
 use lib.IntN.{ℤ, pos}
 use borrow.Author.Tests.{ne_eqb, leb-true, leb-false}
+use Rattle.std.specs.Prelude.{unwrap_or}
 use Rattle.numbers.specs.Signed.{field_of}
 use Rattle.units.specs.declared.TerrainFeet.{TerrainFeet}
 use Rattle.units.specs.declared.PressureSteps.{PressureSteps}
@@ -15,7 +16,7 @@ use Rattle.altitudes.specs.Height.{good_height}
 use Rattle.altitudes.specs.Geometric.{good_merit}
 use Rattle.report.specs.Marks.{steps_or, knots_or, climb_or}
 use Rattle.report.specs.Reading.{between, lowest_climb, highest_climb, good_position}
-use Rattle.c_structs.specs.Flat.{reception_mark, reception_steps, reception_from, height_mark, height_feet, height_from, merit_mark, merit_metres, merit_from}
+use Rattle.c_structs.specs.Flat.{none_mark, marked, reception_from, height_from, merit_mark, merit_metres, merit_from}
 use Rattle.c_report.specs.Flat.{position_mark, latitude_of, longitude_of, position_from, altitude_mark, altitude_steps, altitude_from}
 use Rattle.c_report.specs.Flat.{speed_mark, speed_knots, speed_from, climb_mark, climb_steps, climb_from}
 use Rattle.c_laws.specs.Zeroed.{beside}
@@ -30,11 +31,11 @@ within last mark bad g = go (leb mark last) refl
 
 module _ (mark : ℕ) where
   pub reception_unknown : (n : ℕ) → 1 < mark → good_reception (reception_from mark n) ≡ false
-  unfolding reception_from
+  unfolding marked
   reception_unknown n h = simp (ne_eqb mark 0 (λ e. omega arith), ne_eqb mark 1 (λ e. omega arith))
 
   pub height_unknown : (h : TerrainFeet) → 1 < mark → good_height (height_from mark h) ≡ false
-  unfolding height_from field_of
+  unfolding marked field_of
   height_unknown f h = simp (ne_eqb mark 0 (λ e. omega arith), ne_eqb mark 1 (λ e. omega arith))
 
   pub merit_unknown : (n : ℕ) → 2 < mark → good_merit (merit_from mark n) ≡ false
@@ -42,11 +43,11 @@ module _ (mark : ℕ) where
   merit_unknown n h = simp (ne_eqb mark 0 (λ e. omega arith), ne_eqb mark 1 (λ e. omega arith), ne_eqb mark 2 (λ e. omega arith))
 
   pub position_unknown : (a o : ℤ) (integrity : ℕ) → 1 < mark → good_position (position_from mark a o) integrity ≡ false
-  unfolding position_from good_position
+  unfolding marked good_position
   position_unknown a o i h = simp (ne_eqb mark 0 (λ e. omega arith), ne_eqb mark 1 (λ e. omega arith))
 
   pub altitude_unknown : (d : PressureSteps) → 1 < mark → ltb (steps_or (altitude_from mark d) 0) 0xFFF ≡ false
-  unfolding altitude_from
+  unfolding marked
   altitude_unknown d h = simp (ne_eqb mark 0 (λ e. omega arith), ne_eqb mark 1 (λ e. omega arith))
 
   pub speed_unknown : (n : ℕ) → 2 < mark → ltb (knots_or (speed_from mark n) 0 0) 0xFFE ≡ false
@@ -58,15 +59,15 @@ module _ (mark : ℕ) where
   climb_unknown z h =
       simp (ne_eqb mark 0 (λ e. omega arith), ne_eqb mark 1 (λ e. omega arith), ne_eqb mark 2 (λ e. omega arith), ne_eqb mark 3 (λ e. omega arith))
 
-pub reception_back : (mark n : ℕ) → mark ≤ 1 → (reception_mark (reception_from mark n) ≡ mark) × (reception_steps (reception_from mark n) ≡ beside mark 0 n)
-unfolding reception_from
+pub reception_back : (mark n : ℕ) → mark ≤ 1 → (none_mark (reception_from mark n) ≡ mark) × (unwrap_or (reception_from mark n) 0 ≡ beside mark 0 n)
+unfolding marked
 reception_back zero n h = (refl, refl)
 reception_back (suc zero) n h = (refl, refl)
 reception_back (suc (suc k)) n h = absurd (omega arith)
 
 pub height_back : (mark : ℕ) (h : TerrainFeet) → mark ≤ 1
-    → (height_mark (height_from mark h) ≡ mark) × (height_feet (height_from mark h) ≡ beside mark (record { feet = pos 0 }) h)
-unfolding height_from
+    → (none_mark (height_from mark h) ≡ mark) × (unwrap_or (height_from mark h) (record { feet = pos 0 }) ≡ beside mark (record { feet = pos 0 }) h)
+unfolding marked
 height_back zero f h = (refl, refl)
 height_back (suc zero) f h = (refl, refl)
 height_back (suc (suc k)) f h = absurd (omega arith)
@@ -81,14 +82,14 @@ merit_back (suc (suc (suc k))) n h = absurd (omega arith)
 pub position_back : (mark : ℕ) (a o : ℤ) → mark ≤ 1
     → (position_mark (position_from mark a o) ≡ mark) × (latitude_of (position_from mark a o) ≡ beside mark (pos 0) a)
     × (longitude_of (position_from mark a o) ≡ beside mark (pos 0) o)
-unfolding position_from
+unfolding marked
 position_back zero a o h = (refl, refl, refl)
 position_back (suc zero) a o h = (refl, refl, refl)
 position_back (suc (suc k)) a o h = absurd (omega arith)
 
 pub altitude_back : (mark : ℕ) (d : PressureSteps) → mark ≤ 1
     → (altitude_mark (altitude_from mark d) ≡ mark) × (altitude_steps (altitude_from mark d) ≡ beside mark (record { steps = 0 }) d)
-unfolding altitude_from
+unfolding marked
 altitude_back zero d h = (refl, refl)
 altitude_back (suc zero) d h = (refl, refl)
 altitude_back (suc (suc k)) d h = absurd (omega arith)

@@ -11,7 +11,7 @@ use lib.Signed.{mag}
 use borrow.Author.Tests.{leb-true, le-leb, lt-leb, eqb-true, eq-eqb, ne_eqb}
 use Rattle.numbers.specs.Bytes.{AreBytes}
 use Rattle.numbers.proofs.Every.{both, also_false, chosen}
-use Rattle.std.specs.Prelude.{Ok, Err}
+use Rattle.std.specs.Prelude.{Ok, Err, unwrap_or}
 use Rattle.refusals.specs.declared.Refusal.TheVariants.{WrongLength}
 use Rattle.codec.specs.Reading.{fit, reading}
 use Rattle.codec.specs.Writing.{written_number, writing}
@@ -35,7 +35,7 @@ use Rattle.report.proofs.Laws as reports
 use Rattle.c_structs.specs.declared.FlatUplink.{FlatUplink}
 use Rattle.c_structs.specs.declared.FlatHeight.{FlatHeight}
 use Rattle.c_structs.specs.declared.FlatGeometric.{FlatGeometric}
-use Rattle.c_structs.specs.Flat.{height_from, reception_mark, reception_steps, reception_from, flat_uplink, uplink_from, flat_height, terrain_from, flat_geometric, geometric_from}
+use Rattle.c_structs.specs.Flat.{none_mark, marked, height_from, reception_from, flat_uplink, uplink_from, flat_height, terrain_from, flat_geometric, geometric_from}
 use Rattle.c_structs.proofs.Laws.{there_and_back}
 use Rattle.c_structs.specs.Answers.{heartbeat_answer, initialization_answer, uplink_answer, height_answer, geometric_answer}
 use Rattle.c_report.specs.Answers.{report_answer}
@@ -52,11 +52,11 @@ use Rattle.c_laws.proofs.Trips.{named_by, trip, read, back, again, kind_trip, ba
 
 -- the feet are of their type, whatever the mark
 typed_height : (mark : ℕ) (h : TerrainFeet) → mag h.feet < 0x8000 → TypedHeight (height_from mark h)
-unfolding height_from
+unfolding marked
 typed_height mark h t = chosen TypedHeight mark 0 _ _ (λ e. t) (chosen TypedHeight mark 1 _ _ (λ e. tt) (omega arith))
 
 -- a time of reception that writing accepts comes back
-reception : (mark n : ℕ) → good_reception (reception_from mark n) ≡ true → (reception_mark (reception_from mark n) ≡ mark) × (reception_steps (reception_from mark n) ≡ beside mark 0 n)
+reception : (mark n : ℕ) → good_reception (reception_from mark n) ≡ true → (none_mark (reception_from mark n) ≡ mark) × (unwrap_or (reception_from mark n) 0 ≡ beside mark 0 n)
 reception mark n g = fields.reception_back mark n (fields.within 1 mark (fields.reception_unknown mark n) g)
 
 -- each struct that writing accepts comes back with 0 beside its marks

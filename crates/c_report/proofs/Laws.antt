@@ -10,17 +10,18 @@ use Rattle.message_types.specs.declared.Speed.{Speed}
 use Rattle.message_types.specs.declared.Speed.TheVariants as speed
 use Rattle.message_types.specs.declared.Climb.{Climb}
 use Rattle.message_types.specs.declared.Climb.TheVariants as climb
+use Rattle.c_structs.specs.Flat.{marked}
 use Rattle.c_report.specs.Flat.{position_mark, latitude_of, longitude_of, position_from}
 use Rattle.c_report.specs.Flat.{altitude_mark, altitude_steps, altitude_from, track_number, track_from, speed_mark, speed_knots, speed_from, climb_mark, climb_steps, climb_from}
 use Rattle.c_report.specs.Claims.{ReportThereAndBack}
 
 positions : (x : Option Position) → position_from (position_mark x) (latitude_of x) (longitude_of x) ≡ x
-unfolding position_from
+unfolding marked
 positions (Some p) = refl
 positions None = refl
 
 altitudes : (x : Option PressureSteps) → altitude_from (altitude_mark x) (altitude_steps x) ≡ x
-unfolding altitude_from
+unfolding marked
 altitudes (Some d) = refl
 altitudes None = refl
 

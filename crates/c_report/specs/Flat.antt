@@ -12,6 +12,7 @@ use Rattle.message_types.specs.declared.Speed.TheVariants as speed
 use Rattle.message_types.specs.declared.Climb.{Climb}
 use Rattle.message_types.specs.declared.Climb.TheVariants as climb
 use Rattle.message_types.specs.declared.Report.{Report}
+use Rattle.c_structs.specs.Flat.{marked}
 use Rattle.c_report.specs.declared.FlatReport.{FlatReport}
 
 abbrev pub position_mark : Option Position → ℕ
@@ -26,10 +27,8 @@ abbrev pub longitude_of : Option Position → ℤ
 longitude_of (Some p) = p.longitude
 longitude_of None = pos 0
 
-unfoldable pub position_from : ℕ → ℤ → ℤ → Option Position
-position_from mark a o =
-    cond (eqb mark 0) (Some (record { latitude = a; longitude = o }))
-    (cond (eqb mark 1) None (Some (record { latitude = pos 4194305; longitude = pos 0 })))
+abbrev pub position_from : ℕ → ℤ → ℤ → Option Position
+position_from mark a o = marked mark (record { latitude = a; longitude = o }) (record { latitude = pos 4194305; longitude = pos 0 })
 
 abbrev pub altitude_mark : Option PressureSteps → ℕ
 altitude_mark (Some d) = 0
@@ -39,8 +38,8 @@ abbrev pub altitude_steps : Option PressureSteps → PressureSteps
 altitude_steps (Some d) = d
 altitude_steps None = record { steps = 0 }
 
-unfoldable pub altitude_from : ℕ → PressureSteps → Option PressureSteps
-altitude_from mark d = cond (eqb mark 0) (Some d) (cond (eqb mark 1) None (Some (record { steps = 0xFFF })))
+abbrev pub altitude_from : ℕ → PressureSteps → Option PressureSteps
+altitude_from mark d = marked mark d (record { steps = 0xFFF })
 
 -- 001 Table 9
 abbrev pub track_number : TrackKind → ℕ

@@ -2,7 +2,7 @@
 #![tactic(auto)]
 
 ghost use Rattle.std.specs.Prelude.{◌≡◌};
-ghost use Rattle.c_report.specs.Flat.{position_from, altitude_from, track_number, track_from, speed_from, climb_from, report_from};
+ghost use Rattle.c_report.specs.Flat.{track_number, track_from, speed_from, climb_from, report_from};
 
 use message_types::{CallSign, Climb, Position, Report, Speed, TrackKind};
 use units::PressureSteps;
@@ -43,34 +43,13 @@ pub struct FlatReportRead {
     pub report: FlatReport,
 }
 
-// A mark that no field has gives the field a number that writing refuses with 8.
-#[tactic(auto, unfolding(crate::specs::Flat::position_from))]
-fn position_from(mark: u8, latitude: i32, longitude: i32) -> Option<Position>
-    ensures { result ≡ position_from mark latitude longitude }
-{
-    match mark {
-        0 => Some(Position {
-            latitude,
-            longitude,
-        }),
-        1 => None,
-        _ => Some(Position {
-            latitude: 4194305,
-            longitude: 0,
-        }),
-    }
-}
+// What stands for a mark that the field has not: writing refuses each with 8.
+const PAST_THE_POLE: Position = Position {
+    latitude: 4194305,
+    longitude: 0,
+};
 
-#[tactic(auto, unfolding(crate::specs::Flat::altitude_from))]
-fn altitude_from(mark: u8, steps: PressureSteps) -> Option<PressureSteps>
-    ensures { result ≡ altitude_from mark steps }
-{
-    match mark {
-        0 => Some(steps),
-        1 => None,
-        _ => Some(PressureSteps { steps: 0xFFF }),
-    }
-}
+const NO_STEPS: PressureSteps = PressureSteps { steps: 0xFFF };
 
 pub fn track_number(kind: TrackKind) -> u8
     ensures { result ≡ track_number kind }
@@ -119,9 +98,12 @@ fn climb_from(mark: u8, steps: i32) -> Climb
 pub fn report_from(flat: FlatReport) -> Report
     ensures { result ≡ report_from flat }
 {
-    let steps = flat.altitude;
-    let position = position_from(flat.position_mark, flat.latitude, flat.longitude);
-    let altitude = altitude_from(flat.altitude_mark, steps);
+    let place = Position {
+        latitude: flat.latitude,
+        longitude: flat.longitude,
+    };
+    let position = c_structs::marked(flat.position_mark, place, PAST_THE_POLE);
+    let altitude = c_structs::marked(flat.altitude_mark, flat.altitude, NO_STEPS);
     let speed = speed_from(flat.speed_mark, flat.speed);
     let climb = climb_from(flat.climb_mark, flat.climb);
     let call_sign = flat.call_sign;

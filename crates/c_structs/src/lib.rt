@@ -169,7 +169,7 @@ fn none_mark<T: Copy>(field: Option<T>) -> u8
 
 // The field again. A mark that it has not gives a number that writing refuses.
 #[tactic(auto, unfolding(crate::specs::Flat::marked))]
-fn marked<T: Copy>(mark: u8, number: T, refused: T) -> Option<T>
+pub fn marked<T: Copy>(mark: u8, number: T, refused: T) -> Option<T>
     ensures { result ≡ marked mark number refused }
 {
     match mark {
