@@ -11,7 +11,8 @@ ghost use Rattle.listing.specs.Listing.{limit, longest, state, answer_line, repl
 ghost use Rattle.listing.specs.Listing.{opening, start, steady, counted, passed, holds, settled};
 
 use collecting::{Answer, Control};
-use message_types::Reading;
+use message_types::Message;
+use refusals::Refusal;
 
 // As many bytes are listed at most.
 pub const LIMIT: u64 = 4294967295;
@@ -283,12 +284,12 @@ fn read_number(message: &[u8], k: usize) -> u8
     number_of(messages::read(&message[..k]))
 }
 
-fn number_of(reading: Reading) -> u8
+fn number_of(reading: Result<Message, Refusal>) -> u8
     ensures { result ≡ reading_number reading }
 {
     match reading {
-        Reading::Message(_) => 0,
-        Reading::Refused(n) => n,
+        Ok(_) => 0,
+        Err(refusal) => refusal.number(),
     }
 }
 
