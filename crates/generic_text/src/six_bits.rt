@@ -52,12 +52,13 @@ impl<'a> Codes<'a> {
         let [a, b, c, rest @ ..] = self.rest else {
             return None;
         };
-        let codes = u32::from_be_bytes([0, *a, *b, *c]);
+        let high = (*a as u32) * 256 + *b as u32;
+        let codes = high * 256 + *c as u32;
         let w = character(codes / 262144 % 64);
         let x = character(codes / 4096 % 64);
         let y = character(codes / 64 % 64);
         let z = character(codes % 64);
-        // the least of them is 0 where one is none: of four tests the compiler makes slow ones of bits
+        // the least of them is 0 where one is none: of four tests the compiler makes slower ones of bits
         if w.min(x).min(y.min(z)) == 0 {
             return None;
         }

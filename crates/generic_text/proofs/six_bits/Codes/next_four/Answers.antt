@@ -7,7 +7,7 @@ use Rattle.generic_text.proofs.six_bits.Codes.next_four.Goals as goal
 
 pub returns : goal.returns
 returns c = (
-  four_more c.args.self.rest.now c.in-len3-up.len_at_least (omega arith) (omega arith) (omega arith) c.from_be_bytes-codes.result (omega (arith, c.from_be_bytes-codes.ensures))
+  four_more c.args.self.rest.now c.in-len3-up.len_at_least (omega arith) (omega arith) (omega arith) _ refl
       _ _ _ _ _ _ _ c.if-self-ne0.false c.new.ensures c.character-w.ensures c.character-x.ensures c.character-y.ensures c.character-z.ensures
       (omega arith, omega arith, omega arith, omega arith),
   refl,
