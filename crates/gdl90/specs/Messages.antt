@@ -1,4 +1,4 @@
--- What reading and writing one kind answer, as C has it (RULES 'Structs for C'): the number, and the struct or the length, which are zero with a refusal.
+-- What naming the kind of a message and writing one kind answer, as C has it (RULES 'Structs for C'): the number, and the id or the length, which are zero with a refusal.
 -- Assumes nothing.
 use Rattle.std.specs.Prelude.{◌≡◌, ℕ, Bool, cond, ◌&&◌, List, eqb, leb, length, get_or, Result}
 use Rattle.numbers.specs.Lent.{written}
@@ -6,9 +6,9 @@ use Rattle.refusals.specs.declared.Refusal.{Refusal}
 use Rattle.codec.specs.Writing.{written_number, written_size, written_output, writing}
 use Rattle.heartbeat.specs.Heartbeat.{good_heartbeat, heartbeat_bytes}
 use Rattle.initialization.specs.Initialization.{good_initialization, initialization_bytes}
-use Rattle.altitudes.specs.Height.{height_read, good_terrain, terrain_bytes}
-use Rattle.altitudes.specs.Geometric.{geometric_read, good_geometric, geometric_bytes}
-use Rattle.uplink.specs.Uplink.{uplink_read, uplink_bytes, writing_uplink}
+use Rattle.altitudes.specs.Height.{good_terrain, terrain_bytes}
+use Rattle.altitudes.specs.Geometric.{good_geometric, geometric_bytes}
+use Rattle.uplink.specs.Uplink.{uplink_bytes, writing_uplink}
 use Rattle.message_types.specs.declared.Heartbeat.{Heartbeat}
 use Rattle.message_types.specs.declared.Initialization.{Initialization}
 use Rattle.message_types.specs.declared.Ownship.{Ownship}
@@ -22,24 +22,12 @@ use Rattle.c_report.specs.declared.FlatReport.{FlatReport}
 use Rattle.c_structs.specs.declared.FlatUplink.{FlatUplink}
 use Rattle.c_structs.specs.declared.FlatHeight.{FlatHeight}
 use Rattle.c_structs.specs.declared.FlatGeometric.{FlatGeometric}
-use Rattle.c_structs.specs.declared.FlatUplinkRead.{FlatUplinkRead}
-use Rattle.c_structs.specs.declared.FlatHeightRead.{FlatHeightRead}
-use Rattle.c_structs.specs.declared.FlatGeometricRead.{FlatGeometricRead}
-use Rattle.c_structs.specs.Flat.{flat_uplink, uplink_from, flat_height, terrain_from, flat_geometric, geometric_from}
+use Rattle.c_structs.specs.Flat.{uplink_from, terrain_from, geometric_from}
 use Rattle.c_report.specs.Flat.{report_from}
 
 -- which kind a message is: 6, 17, or its id, which is the first byte
 abbrev pub kind_answer : List ℕ → KindAnswer
 kind_answer m = record { number = kind_number (kind_in m); id = cond (eqb (kind_number (kind_in m)) 0) (get_or m 0 0) 0 }
-
-abbrev pub uplink_answer : List ℕ → FlatUplinkRead
-uplink_answer m = record { number = (uplink_read m).number; uplink = flat_uplink (uplink_read m).uplink }
-
-abbrev pub height_answer : List ℕ → FlatHeightRead
-height_answer m = record { number = (height_read m).number; height = flat_height (height_read m).height }
-
-abbrev pub geometric_answer : List ℕ → FlatGeometricRead
-geometric_answer m = record { number = (geometric_read m).number; geometric = flat_geometric (geometric_read m).geometric }
 
 abbrev pub write_answer : Result ℕ Refusal → WriteAnswer
 write_answer w = record { number = written_number w; length = written_size w }

@@ -6,11 +6,15 @@ ghost use Rattle.numbers.specs.Lent.{written};
 ghost use Rattle.fcs.specs.Fcs.{fcs};
 ghost use Rattle.framing.specs.Framing.{framing, framed_output};
 ghost use Rattle.tallying.specs.Tally.{tallied};
-ghost use Rattle.heartbeat.specs.Heartbeat.{heartbeat_read};
-ghost use Rattle.initialization.specs.Initialization.{initialization_read};
+ghost use Rattle.heartbeat.specs.Heartbeat.{read_heartbeat};
+ghost use Rattle.initialization.specs.Initialization.{read_initialization};
+ghost use Rattle.uplink.specs.Uplink.{read_uplink};
+ghost use Rattle.altitudes.specs.Height.{read_height};
+ghost use Rattle.altitudes.specs.Geometric.{read_geometric};
+ghost use Rattle.c_structs.specs.Answers.{heartbeat_answer, initialization_answer, uplink_answer, height_answer, geometric_answer};
 ghost use Rattle.c_report.specs.Answers.{report_answer};
 ghost use Rattle.report.specs.Reading.{report_read, ownship_read, traffic_read};
-ghost use Rattle.gdl90.specs.Messages.{kind_answer, uplink_answer, height_answer, geometric_answer, write_answer};
+ghost use Rattle.gdl90.specs.Messages.{kind_answer, write_answer};
 ghost use Rattle.gdl90.specs.Messages.{WritesHeartbeat, WritesInitialization, WritesUplink, WritesHeight, WritesReport, WritesOwnship, WritesGeometric, WritesTraffic};
 ghost use Rattle.messages.specs.Message.{kind_number};
 ghost use Rattle.information_frames.specs.Walk.{payload_frames};
@@ -27,12 +31,11 @@ ghost use Rattle.gdl90.specs.Degrees.{degrees_answer, ExactAnswer};
 use c_report::{FlatReport, FlatReportRead};
 use c_structs::{
     FlatGeometric, FlatGeometricRead, FlatHeight, FlatHeightRead, FlatUplink, FlatUplinkRead,
+    HeartbeatRead, InitializationRead,
 };
 use collecting::{Answer, Control, Fed, Phase};
 use generic_text::Text;
-use message_types::{
-    Heartbeat, HeartbeatRead, Initialization, InitializationRead, Ownship, Traffic,
-};
+use message_types::{Heartbeat, Initialization, Ownship, Traffic};
 use messages::Kind;
 use refusals::Refusal;
 use tallying::Tally;
@@ -252,39 +255,27 @@ fn kind_number(kind: Kind) -> u8
 
 // A message of one kind: the number, 6 also for another kind's id; the struct, all zero with a refusal.
 pub fn gdl90_read_heartbeat(message: &[u8]) -> HeartbeatRead
-    ensures { result ≡ heartbeat_read message.now }
+    ensures { result ≡ heartbeat_answer (read_heartbeat message.now) }
 {
-    heartbeat::read_heartbeat(message)
+    heartbeat::read_heartbeat(message).into()
 }
 
 pub fn gdl90_read_initialization(message: &[u8]) -> InitializationRead
-    ensures { result ≡ initialization_read message.now }
+    ensures { result ≡ initialization_answer (read_initialization message.now) }
 {
-    initialization::read_initialization(message)
+    initialization::read_initialization(message).into()
 }
 
 pub fn gdl90_read_uplink(message: &[u8]) -> FlatUplinkRead
-    ensures { result ≡ uplink_answer message.now }
+    ensures { result ≡ uplink_answer (read_uplink message.now) }
 {
-    let read = uplink::read_uplink(message);
-    let value = read.uplink;
-    let uplink = c_structs::flat_uplink(value);
-    FlatUplinkRead {
-        number: read.number,
-        uplink,
-    }
+    uplink::read_uplink(message).into()
 }
 
 pub fn gdl90_read_height(message: &[u8]) -> FlatHeightRead
-    ensures { result ≡ height_answer message.now }
+    ensures { result ≡ height_answer (read_height message.now) }
 {
-    let read = altitudes::read_height(message);
-    let value = read.height;
-    let height = c_structs::flat_height(value);
-    FlatHeightRead {
-        number: read.number,
-        height,
-    }
+    altitudes::read_height(message).into()
 }
 
 pub fn gdl90_read_ownship(message: &[u8]) -> FlatReportRead
@@ -294,15 +285,9 @@ pub fn gdl90_read_ownship(message: &[u8]) -> FlatReportRead
 }
 
 pub fn gdl90_read_geometric(message: &[u8]) -> FlatGeometricRead
-    ensures { result ≡ geometric_answer message.now }
+    ensures { result ≡ geometric_answer (read_geometric message.now) }
 {
-    let read = altitudes::read_geometric(message);
-    let value = read.geometric;
-    let geometric = c_structs::flat_geometric(value);
-    FlatGeometricRead {
-        number: read.number,
-        geometric,
-    }
+    altitudes::read_geometric(message).into()
 }
 
 pub fn gdl90_read_traffic(message: &[u8]) -> FlatReportRead

@@ -6,11 +6,15 @@ ghost use Rattle.numbers.specs.Lent.{written};
 ghost use Rattle.fcs.specs.Fcs.{fcs};
 ghost use Rattle.framing.specs.Framing.{framing, framed_output};
 ghost use Rattle.tallying.specs.Tally.{tallied};
-ghost use Rattle.heartbeat.specs.Heartbeat.{heartbeat_read};
-ghost use Rattle.initialization.specs.Initialization.{initialization_read};
+ghost use Rattle.heartbeat.specs.Heartbeat.{read_heartbeat};
+ghost use Rattle.initialization.specs.Initialization.{read_initialization};
+ghost use Rattle.uplink.specs.Uplink.{read_uplink};
+ghost use Rattle.altitudes.specs.Height.{read_height};
+ghost use Rattle.altitudes.specs.Geometric.{read_geometric};
+ghost use Rattle.c_structs.specs.Answers.{heartbeat_answer, initialization_answer, uplink_answer, height_answer, geometric_answer};
 ghost use Rattle.c_report.specs.Answers.{report_answer};
 ghost use Rattle.report.specs.Reading.{ownship_read, traffic_read};
-ghost use Rattle.gdl90.specs.Messages.{kind_answer, uplink_answer, height_answer, geometric_answer};
+ghost use Rattle.gdl90.specs.Messages.{kind_answer};
 ghost use Rattle.gdl90.specs.Messages.{WritesHeartbeat, WritesInitialization, WritesUplink, WritesHeight, WritesOwnship, WritesGeometric, WritesTraffic};
 ghost use Rattle.information_frames.specs.Walk.{payload_frames};
 ghost use Rattle.information_frames.specs.Answers.{frame_list, nth_frame};
@@ -26,12 +30,13 @@ ghost use Rattle.gdl90.specs.Degrees.{degrees_answer, ExactAnswer};
 use c_report::{FlatReport, FlatReportRead};
 use c_structs::{
     FlatGeometric, FlatGeometricRead, FlatHeight, FlatHeightRead, FlatUplink, FlatUplinkRead,
+    HeartbeatRead, InitializationRead,
 };
 use gdl90::{
     DegreesAnswer, FeedAnswer, FeedControl, FrameAnswer, KindAnswer, PayloadListAnswer,
     PayloadNthAnswer, RecordingAnswer, TextAnswer, WriteAnswer,
 };
-use message_types::{Heartbeat, HeartbeatRead, Initialization, InitializationRead};
+use message_types::{Heartbeat, Initialization};
 use tallying::Tally;
 use units::{GeometricSteps, PressureSteps, TerrainFeet};
 
@@ -96,28 +101,28 @@ pub extern "C" fn gdl90_kind(message: &[u8]) -> KindAnswer
 
 #[unsafe(no_mangle)]
 pub extern "C" fn gdl90_read_heartbeat(message: &[u8]) -> HeartbeatRead
-    ensures { result ≡ heartbeat_read message.now }
+    ensures { result ≡ heartbeat_answer (read_heartbeat message.now) }
 {
     gdl90::gdl90_read_heartbeat(message)
 }
 
 #[unsafe(no_mangle)]
 pub extern "C" fn gdl90_read_initialization(message: &[u8]) -> InitializationRead
-    ensures { result ≡ initialization_read message.now }
+    ensures { result ≡ initialization_answer (read_initialization message.now) }
 {
     gdl90::gdl90_read_initialization(message)
 }
 
 #[unsafe(no_mangle)]
 pub extern "C" fn gdl90_read_uplink(message: &[u8]) -> FlatUplinkRead
-    ensures { result ≡ uplink_answer message.now }
+    ensures { result ≡ uplink_answer (read_uplink message.now) }
 {
     gdl90::gdl90_read_uplink(message)
 }
 
 #[unsafe(no_mangle)]
 pub extern "C" fn gdl90_read_height(message: &[u8]) -> FlatHeightRead
-    ensures { result ≡ height_answer message.now }
+    ensures { result ≡ height_answer (read_height message.now) }
 {
     gdl90::gdl90_read_height(message)
 }
@@ -131,7 +136,7 @@ pub extern "C" fn gdl90_read_ownship(message: &[u8]) -> FlatReportRead
 
 #[unsafe(no_mangle)]
 pub extern "C" fn gdl90_read_geometric(message: &[u8]) -> FlatGeometricRead
-    ensures { result ≡ geometric_answer message.now }
+    ensures { result ≡ geometric_answer (read_geometric message.now) }
 {
     gdl90::gdl90_read_geometric(message)
 }
