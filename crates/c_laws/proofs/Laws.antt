@@ -13,7 +13,7 @@ use Rattle.numbers.specs.Bytes.{AreBytes}
 use Rattle.numbers.proofs.Every.{both, also_false, chosen}
 use Rattle.std.specs.Prelude.{Ok, Err, unwrap_or}
 use Rattle.refusals.specs.declared.Refusal.TheVariants.{WrongLength}
-use Rattle.codec.specs.Reading.{fit, reading}
+use Rattle.codec.specs.Reading.{fit}
 use Rattle.codec.specs.Writing.{written_number, writing}
 use Rattle.codec.proofs.Outcomes.{other_id}
 use Rattle.units.specs.declared.TerrainFeet.{TerrainFeet}
