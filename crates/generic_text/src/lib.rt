@@ -13,7 +13,7 @@ ghost use Rattle.generic_text.specs.Codes.{codes_left, Fits, or_no_bytes, measur
 mod six_bits;
 
 use refusals::Refusal;
-use six_bits::Codes;
+use six_bits::{CHARACTERS, Codes};
 
 // 001 §5.2.2.1.
 const PRODUCT: u16 = 413;
@@ -38,7 +38,8 @@ pub fn read(apdu: &[u8], out: &mut [u8]) -> Result<Text, Refusal>
     if !is_generic_text(apdu[0], apdu[1], apdu[2]) {
         return Err(Refusal::NoText);
     }
-    let codes = Codes::new(&apdu[4..]);
+    let table = CHARACTERS;
+    let codes = Codes::new(&table, &apdu[4..]);
     let n = measure(codes, out.len())?;
     if out.len() < n {
         return Err(Refusal::NoRoom);
@@ -111,7 +112,8 @@ fn expand(codes: Codes, out: &mut [u8])
     }
 }
 
-// Four bytes from `at` on: four stores, which the compiler makes one of (tried: copy_from_slice is slower).
+// Four bytes from `at` on: four stores, which the compiler makes one of. Tried: `copy_from_slice` of the four copies them twice, and
+// reading misses its bar.
 fn put_four(out: &mut [u8], at: usize, a: u8, b: u8, c: u8, d: u8) -> usize
     requires { at + 4 ≤ length out.old }
     ensures { Stored out.old at (a ∷ b ∷ c ∷ d ∷ []) result out.new }

@@ -1,11 +1,12 @@
 // Codes of six bits, packed into bytes high bit first, and the characters and tabs that they are (001 §5.2.2.2).
 ghost use Rattle.std.specs.Prelude.{◌≡◌, ◌%◌, ◌<◌, ◌≤◌};
-ghost use Rattle.characters.specs.Characters.{character_of};
+ghost use Rattle.characters.specs.Characters.{code_characters, character_of};
 
 use refusals::Refusal;
 
-// The 64 code characters: 0 where a code is no character: the end, 27, the tab (28) and 31.
-static CHARACTERS: [u8; 64] =
+// The 64 code characters: 0 where a code is no character: the end, 27, the tab (28) and 31. A constant that is lent: tried, and as a
+// `static` reading misses its bar, since the compiler makes tests of single bits of it.
+pub const CHARACTERS: [u8; 64] =
     *b"\0ABCDEFGHIJKLMNOPQRSTUVWXYZ\0\0\x1E\n\0 !\"#$%&'()*+,-./0123456789:;<=>?";
 
 // The code whose next six bits count spaces.
@@ -14,11 +15,13 @@ const TAB: u8 = 28;
 // The codes that are left: those in the low bits of the last byte, of which an even number is left, and in the bytes behind it.
 #[derive(Clone, Copy)]
 pub struct Codes<'a> {
+    pub table: &'a [u8; 64],
     pub last: u8,
     pub width: u32,
     pub rest: &'a [u8],
     ghost even: { width % 2 ≡ 0 },
     ghost few: { width ≤ 6 },
+    ghost listed: { table.now ≡ code_characters },
 }
 
 // A byte so many times: a character once, or a tab's spaces.
@@ -31,10 +34,12 @@ pub struct Run {
 impl<'a> Codes<'a> {
     ghost use Rattle.generic_text.specs.Codes.{codes_in, codes_left, NextCode, NextRun, NextFour};
 
-    pub fn new(bytes: &'a [u8]) -> Codes<'a>
+    pub fn new(table: &'a [u8; 64], bytes: &'a [u8]) -> Codes<'a>
+        requires { table.now ≡ code_characters }
         ensures { codes_left result ≡ codes_in bytes.now }
     {
         Codes {
+            table,
             last: 0,
             width: 0,
             rest: bytes,
@@ -54,15 +59,14 @@ impl<'a> Codes<'a> {
         };
         let high = (*a as u32) * 256 + *b as u32;
         let codes = high * 256 + *c as u32;
-        let w = character(codes / 262144 % 64);
-        let x = character(codes / 4096 % 64);
-        let y = character(codes / 64 % 64);
-        let z = character(codes % 64);
-        // the least of them is 0 where one is none: of four tests the compiler makes slower ones of bits
-        if w.min(x).min(y.min(z)) == 0 {
+        let w = character(self.table, codes / 262144 % 64);
+        let x = character(self.table, codes / 4096 % 64);
+        let y = character(self.table, codes / 64 % 64);
+        let z = character(self.table, codes % 64);
+        if w == 0 || x == 0 || y == 0 || z == 0 {
             return None;
         }
-        Some(([w, x, y, z], Codes::new(rest)))
+        Some(([w, x, y, z], Codes::new(self.table, rest)))
     }
 
     // The next character, or a tab's spaces, and what is left behind them; nothing where the text ends.
@@ -82,7 +86,7 @@ impl<'a> Codes<'a> {
             };
             return Ok(Some((Run { byte: b' ', times }, rest)));
         }
-        match character(code as u32) {
+        match character(self.table, code as u32) {
             0 => Err(Refusal::NoCharacter),
             byte => Ok(Some((Run { byte, times: 1 }, rest))),
         }
@@ -94,6 +98,7 @@ impl<'a> Codes<'a> {
     {
         if self.width == 6 {
             let rest = Codes {
+                table: self.table,
                 last: self.last,
                 width: 0,
                 rest: self.rest,
@@ -106,6 +111,7 @@ impl<'a> Codes<'a> {
         let width = self.width + 2;
         let both = (self.last as u32) * 256 + *byte as u32;
         let rest = Codes {
+            table: self.table,
             last: *byte,
             width,
             rest,
@@ -115,9 +121,9 @@ impl<'a> Codes<'a> {
 }
 
 // The character of a code, 0 where it is none.
-fn character(code: u32) -> u8
-    requires { code < 64 }
+fn character(table: &[u8; 64], code: u32) -> u8
+    requires { (table.now ≡ code_characters) × (code < 64) }
     ensures { result ≡ character_of code }
 {
-    CHARACTERS[code as usize]
+    table[code as usize]
 }
