@@ -55,8 +55,8 @@ pub struct Control {
     pub phase: Phase,
 }
 
-// An enum of its own, with any number in a refusal: a tally takes every answer that a caller makes up (`tallying::raise`), and
-// a narrower type would ask more of callers.
+// As an Option<Result<usize, _>> its cases would read `Some(Ok(k))` and `Some(Err((n, at)))`, and say less. The number is a u8, since a
+// tally takes every answer that a caller makes up (`tallying::raise`), and a narrower type would ask more of callers.
 #[derive(Clone, Copy, Debug, PartialEq, Eq, Hash)]
 pub enum Answer {
     // none yet
