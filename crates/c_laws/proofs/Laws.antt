@@ -14,7 +14,7 @@ use Rattle.numbers.proofs.Every.{both, also_false, chosen}
 use Rattle.std.specs.Prelude.{Ok, Err, unwrap_or}
 use Rattle.refusals.specs.declared.Refusal.TheVariants.{WrongLength}
 use Rattle.codec.specs.Reading.{fit}
-use Rattle.codec.specs.Writing.{written_number, writing}
+use Rattle.codec.specs.Writing.{writing}
 use Rattle.codec.proofs.Outcomes.{other_id}
 use Rattle.units.specs.declared.TerrainFeet.{TerrainFeet}
 use Rattle.heartbeat.specs.Heartbeat.{heartbeat_in, good_heartbeat, heartbeat_bytes}
@@ -49,6 +49,7 @@ use Rattle.c_laws.specs.Zeroed.{beside, zeroed_uplink, zeroed_height, zeroed_geo
 use Rattle.c_laws.specs.Claims.{Any, RoundTrip, RoundTrips, RetiredKind, UnknownIn, position, altitude, track, speed, climb, UnknownMarks}
 use Rattle.c_laws.proofs.Fields as fields
 use Rattle.c_laws.proofs.Trips.{named_by, trip, read, back, again, kind_trip, bad}
+use Rattle.refusals.specs.Numbers.{number_in}
 
 -- the feet are of their type, whatever the mark
 typed_height : (mark : ℕ) (h : TerrainFeet) → mag h.feet < 0x8000 → TypedHeight (height_from mark h)
@@ -113,11 +114,11 @@ module _ (x : FlatUplink × List ℕ) where
   unfolding writing_uplink
   accepts room g = let b = both (eqb (length x.1) 432) _ g in simp (b.0, b.1)
 
-  refuses : (room : ℕ) → good ≡ false → written_number (writing_uplink (uplink_from x.0) x.1 room) ≡ 0 → ⊥
+  refuses : (room : ℕ) → good ≡ false → number_in (writing_uplink (uplink_from x.0) x.1 room) ≡ 0 → ⊥
   unfolding writing_uplink writing
   refuses room = go (eqb (length x.1) 432) (good_uplink (uplink_from x.0))
     where
-      go : (s t : Bool) → s && t ≡ false → written_number (cond s (writing t bytes room) (Err WrongLength)) ≡ 0 → ⊥
+      go : (s t : Bool) → s && t ≡ false → number_in (cond s (writing t bytes room) (Err WrongLength)) ≡ 0 → ⊥
       go true true e z = let y : ◌≡◌ {A = ℕ} 0 1 = cc in omega arith
       go true false e z = omega arith
       go false t e z = omega arith

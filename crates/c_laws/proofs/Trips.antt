@@ -14,10 +14,10 @@ use Rattle.numbers.specs.Lent.{written}
 use Rattle.std.specs.Prelude.{Result, Ok, Err}
 use Rattle.refusals.specs.declared.Refusal.{Refusal}
 use Rattle.refusals.specs.declared.Refusal.TheVariants as refusal
-use Rattle.refusals.specs.Numbers.{refusal_number}
+use Rattle.refusals.specs.Numbers.{refusal_number, number_in}
 use Rattle.codec.specs.Reading.{fit, reading}
 use Rattle.codec.proofs.Outcomes.{accepted, other_id}
-use Rattle.codec.specs.Writing.{written_number, written_output, writing}
+use Rattle.codec.specs.Writing.{written_output, writing}
 use Rattle.messages.specs.Message.{kind_of, kind_in, kind_number}
 use Rattle.gdl90.specs.declared.WriteAnswer.{WriteAnswer}
 use Rattle.gdl90.specs.Messages.{kind_answer, write_answer, AnsweredBy, AnsweredWriting}
@@ -52,7 +52,7 @@ named_by id known m some first = simp (ne_eqb (length m) 0 some, first, known)
 module _ {id : ℕ} {X : Type 0} {Typed : X → Type 0} {number : List ℕ → ℕ} {value : List ℕ → X} {zeroed : X → X} (way : X → ℕ → Result ℕ Refusal) (good : X → Bool) (bytes : X → List ℕ)
     -- writing a good value is the same for every kind, and no other is accepted
     (accepts : (x : X) (room : ℕ) → good x ≡ true → way x room ≡ writing true (bytes x) room)
-    (refuses : (x : X) (room : ℕ) → good x ≡ false → written_number (way x room) ≡ 0 → ⊥)
+    (refuses : (x : X) (room : ℕ) → good x ≡ false → number_in (way x room) ≡ 0 → ⊥)
     -- the bytes of a good value are read as it is, and what is read is a good value's bytes
     (back : (x : X) → Typed x → good x ≡ true → (number (bytes x) ≡ 0) × (value (bytes x) ≡ zeroed x))
     (again : (m : List ℕ) → AreBytes m → number m ≡ 0 → (good (value m) ≡ true) × (bytes (value m) ≡ m))

@@ -10,15 +10,6 @@ use Rattle.refusals.specs.Numbers.{refusal_number}
 unfoldable pub writing : Bool → List ℕ → ℕ → Result ℕ Refusal
 writing good bytes room = cond good (cond (leb (length bytes) room) (Ok (length bytes)) (Err NoRoom)) (Err BadField)
 
--- the number, and the bytes written, for each answer
-abbrev pub written_number : Result ℕ Refusal → ℕ
-written_number (Ok n) = 0
-written_number (Err refusal) = refusal_number refusal
-
-abbrev pub written_size : Result ℕ Refusal → ℕ
-written_size (Ok n) = n
-written_size (Err refusal) = 0
-
 -- the bytes that each answer writes for a message
 abbrev pub written_output : Result ℕ Refusal → List ℕ → List ℕ
 written_output (Ok n) bytes = bytes

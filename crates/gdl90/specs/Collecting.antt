@@ -2,7 +2,6 @@
 -- Assumes nothing.
 use Rattle.std.specs.Prelude.{◌≡◌, ℕ, cond, List, Result, eqb, leb, length}
 use Rattle.refusals.specs.declared.Refusal.{Refusal}
-use Rattle.framing.specs.Framing.{framed_number, framed_size}
 use Rattle.collecting.specs.declared.Phase.{Phase}
 use Rattle.collecting.specs.declared.Phase.TheVariants.{LeadIn, Open, Escape, BadEscape, TooLong}
 use Rattle.collecting.specs.declared.Control.{Control}
@@ -12,15 +11,16 @@ use Rattle.collecting.specs.declared.Fed.{Fed}
 use Rattle.collecting.specs.Step.{phase_number, held}
 use Rattle.collecting.specs.Stream.{is_answered, answer_number, message_length, position, Run, run}
 use Rattle.refusals.specs.declared.Refusal.{Refusal}
-use Rattle.recording.specs.Recording.{recorded, recorded_number, recorded_entries, ReadRecording}
+use Rattle.recording.specs.Recording.{recorded, ReadRecording}
 use Rattle.gdl90.specs.declared.FrameAnswer.{FrameAnswer}
 use Rattle.gdl90.specs.declared.FeedControl.{FeedControl}
 use Rattle.gdl90.specs.declared.FeedAnswer.{FeedAnswer}
 use Rattle.gdl90.specs.declared.RecordingAnswer.{RecordingAnswer}
+use Rattle.refusals.specs.Numbers.{number_in, count_in}
 
 -- the number, and the bytes written, 0 with a refusal
 abbrev pub frame_answer : Result ℕ Refusal → FrameAnswer
-frame_answer f = record { number = framed_number f; length = framed_size f }
+frame_answer f = record { number = number_in f; length = count_in f }
 
 unfoldable pub phase_of : ℕ → Phase
 phase_of n = cond (eqb n 0) LeadIn (cond (eqb n 1) Open (cond (eqb n 2) Escape (cond (eqb n 3) BadEscape TooLong)))
@@ -58,7 +58,7 @@ answer_in f = cond f.answered (cond (eqb f.number 0) (Accepted f.length) (Refuse
 
 -- the number, and how many entries a recording has, 0 with a refusal
 abbrev pub recording_answer : Result ℕ Refusal → RecordingAnswer
-recording_answer r = record { number = recorded_number r; entries = recorded_entries r }
+recording_answer r = record { number = number_in r; entries = count_in r }
 
 -- what C has of reading a recording: the answer, and what the list and the memory for messages hold then
 pub record ReadsRecording (bs list messages : List ℕ) (answer : RecordingAnswer) (list_left messages_left : List ℕ) : Type 0 where

@@ -5,11 +5,12 @@ use Rattle.std.specs.Float.{binary64}
 use Rattle.std.specs.Float.Ieee.{to_bits}
 use Rattle.refusals.specs.declared.Refusal.{Refusal}
 use Rattle.units.specs.declared.Degrees.{Degrees}
-use Rattle.units.specs.Degrees.{Exactly, degrees_number, degrees_of}
+use Rattle.units.specs.Degrees.{Exactly, degrees_of}
 use Rattle.gdl90.specs.declared.DegreesAnswer.{DegreesAnswer}
+use Rattle.refusals.specs.Numbers.{number_in}
 
 abbrev pub degrees_answer : Result Degrees Refusal → DegreesAnswer
-degrees_answer d = record { number = degrees_number d; latitude = (degrees_of d).latitude; longitude = (degrees_of d).longitude }
+degrees_answer d = record { number = number_in d; latitude = (degrees_of d).latitude; longitude = (degrees_of d).longitude }
 
 -- with number 0 both floats are exact
 abbrev pub ExactAnswer : ℤ → ℤ → DegreesAnswer → Type 0

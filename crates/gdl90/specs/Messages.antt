@@ -3,7 +3,7 @@
 use Rattle.std.specs.Prelude.{◌≡◌, ℕ, Bool, cond, ◌&&◌, List, eqb, leb, length, get_or, Result}
 use Rattle.numbers.specs.Lent.{written}
 use Rattle.refusals.specs.declared.Refusal.{Refusal}
-use Rattle.codec.specs.Writing.{written_number, written_size, written_output, writing}
+use Rattle.codec.specs.Writing.{written_output, writing}
 use Rattle.heartbeat.specs.Heartbeat.{good_heartbeat, heartbeat_bytes}
 use Rattle.initialization.specs.Initialization.{good_initialization, initialization_bytes}
 use Rattle.altitudes.specs.Height.{good_terrain, terrain_bytes}
@@ -24,13 +24,14 @@ use Rattle.c_structs.specs.declared.FlatHeight.{FlatHeight}
 use Rattle.c_structs.specs.declared.FlatGeometric.{FlatGeometric}
 use Rattle.c_structs.specs.Flat.{uplink_from, terrain_from, geometric_from}
 use Rattle.c_report.specs.Flat.{report_from}
+use Rattle.refusals.specs.Numbers.{number_in, count_in}
 
 -- which kind a message is: 6, 17, or its id, which is the first byte
 abbrev pub kind_answer : List ℕ → KindAnswer
 kind_answer m = record { number = kind_number (kind_in m); id = cond (eqb (kind_number (kind_in m)) 0) (get_or m 0 0) 0 }
 
 abbrev pub write_answer : Result ℕ Refusal → WriteAnswer
-write_answer w = record { number = written_number w; length = written_size w }
+write_answer w = record { number = number_in w; length = count_in w }
 
 -- what a way of writing answers and leaves
 pub record AnsweredBy (w : Result ℕ Refusal) (bytes out : List ℕ) (answer : WriteAnswer) (left : List ℕ) : Type 0 where

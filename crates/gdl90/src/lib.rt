@@ -19,7 +19,7 @@ ghost use Rattle.gdl90.specs.Messages.{WritesHeartbeat, WritesInitialization, Wr
 ghost use Rattle.messages.specs.Message.{kind_number};
 ghost use Rattle.information_frames.specs.Walk.{payload_frames};
 ghost use Rattle.information_frames.specs.Answers.{frame_list, nth_frame};
-ghost use Rattle.information_frames.specs.Adding.{adding, added_number, payload_after};
+ghost use Rattle.information_frames.specs.Adding.{adding, payload_after};
 ghost use Rattle.gdl90.specs.Collecting.{frame_answer, control_of, feed_answer, feeding, Feeds, answer_in, recording_answer, ReadsRecording};
 ghost use Rattle.units.specs.Degrees.{in_degrees};
 ghost use Rattle.units.specs.Feet.{pressure_feet, geometric_feet, terrain_feet};
@@ -27,6 +27,7 @@ ghost use Rattle.gdl90.specs.Payload.{payload_list_answer, payload_nth_answer};
 ghost use Rattle.generic_text.specs.Product.{text_with};
 ghost use Rattle.gdl90.specs.Texts.{text_answer, ReadsText, WritesText};
 ghost use Rattle.gdl90.specs.Degrees.{degrees_answer, ExactAnswer};
+ghost use Rattle.refusals.specs.Numbers.{number_in};
 
 use c_report::{FlatReport, FlatReportRead};
 use c_structs::{
@@ -467,7 +468,7 @@ fn no_frame(refusal: Refusal) -> PayloadNthAnswer
 
 // `information_frames::add`: the number, 0 where the frame was added.
 pub fn gdl90_payload_add(payload: &mut [u8], kind: u8, bytes: &[u8]) -> u8
-    ensures answer { result ≡ added_number (adding (payload_frames payload.old) kind (length bytes.now)) }
+    ensures answer { result ≡ number_in (adding (payload_frames payload.old) kind (length bytes.now)) }
     ensures payload { payload.new ≡ payload_after (adding (payload_frames payload.old) kind (length bytes.now)) payload.old kind bytes.now }
 {
     match information_frames::add(payload, kind, bytes) {

@@ -18,7 +18,7 @@ ghost use Rattle.gdl90.specs.Messages.{kind_answer};
 ghost use Rattle.gdl90.specs.Messages.{WritesHeartbeat, WritesInitialization, WritesUplink, WritesHeight, WritesOwnship, WritesGeometric, WritesTraffic};
 ghost use Rattle.information_frames.specs.Walk.{payload_frames};
 ghost use Rattle.information_frames.specs.Answers.{frame_list, nth_frame};
-ghost use Rattle.information_frames.specs.Adding.{adding, added_number, payload_after};
+ghost use Rattle.information_frames.specs.Adding.{adding, payload_after};
 ghost use Rattle.gdl90.specs.Collecting.{frame_answer, feeding, Feeds, ReadsRecording};
 ghost use Rattle.units.specs.Degrees.{in_degrees};
 ghost use Rattle.units.specs.Feet.{pressure_feet, geometric_feet, terrain_feet};
@@ -26,6 +26,7 @@ ghost use Rattle.gdl90.specs.Payload.{payload_list_answer, payload_nth_answer};
 ghost use Rattle.generic_text.specs.Product.{text_with};
 ghost use Rattle.gdl90.specs.Texts.{ReadsText, WritesText};
 ghost use Rattle.gdl90.specs.Degrees.{degrees_answer, ExactAnswer};
+ghost use Rattle.refusals.specs.Numbers.{number_in};
 
 use c_report::{FlatReport, FlatReportRead};
 use c_structs::{
@@ -220,7 +221,7 @@ pub extern "C" fn gdl90_payload_nth(payload: &[u8], n: usize) -> PayloadNthAnswe
 
 #[unsafe(no_mangle)]
 pub extern "C" fn gdl90_payload_add(payload: &mut [u8], kind: u8, bytes: &[u8]) -> u8
-    ensures answer { result ≡ added_number (adding (payload_frames payload.old) kind (length bytes.now)) }
+    ensures answer { result ≡ number_in (adding (payload_frames payload.old) kind (length bytes.now)) }
     ensures payload { payload.new ≡ payload_after (adding (payload_frames payload.old) kind (length bytes.now)) payload.old kind bytes.now }
 {
     gdl90::gdl90_payload_add(payload, kind, bytes)

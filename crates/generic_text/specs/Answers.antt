@@ -24,11 +24,7 @@ abbrev pub decoded_text : spec.Decoded → List ℕ
 decoded_text (spec.decoded t) = t.characters
 decoded_text (spec.refused k) = []
 
--- the number and the values for each case, 0 beside a refusal
-abbrev pub read_number : Result Text Refusal → ℕ
-read_number (Ok t) = 0
-read_number (Err k) = refusal_number k
-
+-- the values for each case, 0 beside a refusal
 abbrev pub read_hours : Result Text Refusal → ℕ
 read_hours (Ok t) = t.hours
 read_hours (Err k) = 0

@@ -15,11 +15,12 @@ use Rattle.refusals.specs.declared.Refusal.{Refusal}
 use Rattle.information_frames.specs.declared.Frame.{Frame}
 use Rattle.information_frames.specs.Frames.{length_in, headed}
 use Rattle.information_frames.specs.Walk.{Frames, listed, refused, frames_before, walk, valid_bit, payload_frames}
-use Rattle.information_frames.specs.Answers.{frame_list, nth_frame, list_number, found_number}
-use Rattle.information_frames.specs.Adding.{is_good, adding, added_number}
+use Rattle.information_frames.specs.Answers.{frame_list, nth_frame}
+use Rattle.information_frames.specs.Adding.{is_good, adding}
 use Rattle.information_frames.specs.Claims.{length_at, Starts, first, next, RunsPast, PastIs11, Over422Is11, is_one_of, numbers_of_list, numbers_of_frame, numbers_of_adding, Numbers}
 use Rattle.information_frames.proofs.Walking.{every_walk, every_payload}
 use Rattle.information_frames.proofs.Scanning.{two, Reached, start, refused_past, goes_on}
+use Rattle.refusals.specs.Numbers.{number_in}
 
 -- frames before a list are refused only where it is
 refused_behind : (fs : List Frame) (w : Frames) {k : Refusal} → frames_before fs w ≡ refused k → w ≡ refused k
@@ -97,16 +98,16 @@ module _ (P : Frames → Type 0) (end : (fs : List Frame) (at : ℕ) → P (list
 pub numbers : Numbers
 unfolding is_one_of frame_list nth_frame adding
 numbers p n kind size = (
-  refusals (λ w. is_one_of numbers_of_list (list_number (frame_list w)) ≡ true) (λ fs end. refl) refl refl p,
-  refusals (λ w. is_one_of numbers_of_frame (found_number (nth_frame w n)) ≡ true) (λ fs end. found (slice_get fs n)) refl refl p,
-  refusals (λ w. is_one_of numbers_of_adding (added_number (adding w kind size)) ≡ true) (λ fs end. added (is_good kind size) (ltb 424 (end + 2 + size))) refl refl p,
+  refusals (λ w. is_one_of numbers_of_list (number_in (frame_list w)) ≡ true) (λ fs end. refl) refl refl p,
+  refusals (λ w. is_one_of numbers_of_frame (number_in (nth_frame w n)) ≡ true) (λ fs end. found (slice_get fs n)) refl refl p,
+  refusals (λ w. is_one_of numbers_of_adding (number_in (adding w kind size)) ≡ true) (λ fs end. added (is_good kind size) (ltb 424 (end + 2 + size))) refl refl p,
 )
   where
-    found : (f : Option Frame) → is_one_of numbers_of_frame (found_number (ok_or f NoFrame)) ≡ true
+    found : (f : Option Frame) → is_one_of numbers_of_frame (number_in (ok_or f NoFrame)) ≡ true
     found (Some f) = refl
     found None = refl
 
-    added : (t u : Bool) → is_one_of numbers_of_adding (added_number (cond t (cond u (Err NoRoom) (Ok (tt {0}))) (Err BadField))) ≡ true
+    added : (t u : Bool) → is_one_of numbers_of_adding (number_in (cond t (cond u (Err NoRoom) (Ok (tt {0}))) (Err BadField))) ≡ true
     added true true = refl
     added true false = refl
     added false u = refl

@@ -25,11 +25,7 @@ abbrev pub end_of : Frames → ℕ
 end_of (listed fs end) = end
 end_of (refused k) = 0
 
--- the number, and the payload that is left, for each case
-abbrev pub added_number : Result (Unit {0}) Refusal → ℕ
-added_number (Ok done) = 0
-added_number (Err k) = refusal_number k
-
+-- the payload that is left for each case
 abbrev pub payload_after : Result (Unit {0}) Refusal → List ℕ → ℕ → List ℕ → List ℕ
 payload_after (Ok done) p kind xs = with_frame p (end_of (payload_frames p)) kind xs
 payload_after (Err k) p kind xs = p

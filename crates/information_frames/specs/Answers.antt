@@ -33,11 +33,7 @@ data_start (Err k) = 0
 unfoldable pub data_in : List ℕ → Frame → List ℕ
 data_in p f = stretch (f.at + 10) f.length p
 
--- the number and the frame for each case of a frame asked for, 0 beside a refusal
-abbrev pub found_number : Result Frame Refusal → ℕ
-found_number (Ok f) = 0
-found_number (Err k) = refusal_number k
-
+-- the frame for each case of a frame asked for, 0 beside a refusal
 abbrev pub found_frame : Result Frame Refusal → Frame
 found_frame (Ok f) = f
 found_frame (Err k) = none
@@ -54,11 +50,7 @@ unfoldable pub scanned : ℕ → Frames → Result Walked Refusal
 scanned n (listed fs end) = Ok (walked (length fs) end (slice_get fs n))
 scanned n (refused k) = Err k
 
--- the number and values for each case, 0 beside a refusal
-abbrev pub list_number : Result FrameList Refusal → ℕ
-list_number (Ok l) = 0
-list_number (Err k) = refusal_number k
-
+-- the values for each case, 0 beside a refusal
 abbrev pub list_count : Result FrameList Refusal → ℕ
 list_count (Ok l) = l.count
 list_count (Err k) = 0

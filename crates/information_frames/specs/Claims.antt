@@ -5,9 +5,10 @@ use Rattle.refusals.specs.declared.Refusal.TheVariants.{PastTheEnd}
 use Rattle.information_frames.specs.declared.Frame.{Frame}
 use Rattle.information_frames.specs.Frames.{length_in}
 use Rattle.information_frames.specs.Walk.{listed, refused, valid_bit, payload_frames}
-use Rattle.information_frames.specs.Answers.{frame_list, nth_frame, data_in, list_number, found_number}
-use Rattle.information_frames.specs.Adding.{adding, added_number, Adds}
+use Rattle.information_frames.specs.Answers.{frame_list, nth_frame, data_in}
+use Rattle.information_frames.specs.Adding.{adding, Adds}
 use Rattle.information_frames.specs.Contents.{Content, contents, new_frame, new_content}
+use Rattle.refusals.specs.Numbers.{number_in}
 
 -- the payload fixes the list: its length, its valid bit and its application data do, and no other bit of its header
 abbrev pub Fixed : Type 0
@@ -58,9 +59,9 @@ numbers_of_adding = 0 ∷ 7 ∷ 11 ∷ 8 ∷ 9 ∷ []
 abbrev pub Numbers : Type 0
 Numbers =
     (p : List ℕ) (n kind size : ℕ)
-    → (is_one_of numbers_of_list (list_number (frame_list (payload_frames p))) ≡ true)
-    × (is_one_of numbers_of_frame (found_number (nth_frame (payload_frames p) n)) ≡ true)
-    × (is_one_of numbers_of_adding (added_number (adding (payload_frames p) kind size)) ≡ true)
+    → (is_one_of numbers_of_list (number_in (frame_list (payload_frames p))) ≡ true)
+    × (is_one_of numbers_of_frame (number_in (nth_frame (payload_frames p) n)) ≡ true)
+    × (is_one_of numbers_of_adding (number_in (adding (payload_frames p) kind size)) ≡ true)
 
 -- each frame has at least three of the 424 bytes
 abbrev pub AtMost141 : Type 0

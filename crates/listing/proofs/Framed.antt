@@ -20,7 +20,7 @@ use Rattle.collecting.specs.Claims.{Answered}
 use Rattle.collecting.proofs.Closing.{pieces}
 use Rattle.collecting.proofs.Filling.{unflagged_most}
 use Rattle.collecting.proofs.Found.{frames_read}
-use Rattle.messages.specs.Message.{read_message, reading_number}
+use Rattle.messages.specs.Message.{read_message}
 use Rattle.messages.proofs.Retired.{has_byte, retired_is_17}
 use Rattle.listing.specs.Line.{Field, digits, dash}
 use Rattle.listing.specs.Listing.{State, collector, opening, start, answer_line, reply_line, text_of, counted, passed, advanced, reached, texts}
@@ -28,6 +28,7 @@ use Rattle.listing.specs.Claims.{AddsLine, FramesListed, RetiredFrames}
 use Rattle.listing.proofs.Steps.{reached-append, texts-append, reached_taken}
 use Rattle.listing.proofs.Passing.{reached_flagless, texts_flagless}
 use Rattle.listing.proofs.Trailing.{inside_flag, lead_is}
+use Rattle.refusals.specs.Numbers.{number_in}
 
 -- the lister's collector is collecting's
 collector_reached : (s : State) (bs : List ℕ) → collector (reached s bs) ≡ after (collector s) bs
@@ -82,7 +83,7 @@ frames_listed before m some most =
     (texts-append s ws (flag ∷ [])
     ∙ ap₂ (λ (a b : List ℕ). a ++ b) (texts_flagless s ws (stuffed_flagless (m ++ low_first (fcs m)))) (append-nil (text_of (reached s ws) flag))
     ∙ ap (reply_line (reached s ws).lister) (closing before m some most)
-    ∙ same_line before m (reading_number (read_message m)) (digits (get_or m 0 0)) (digits (length m)) dash)
+    ∙ same_line before m (number_in (read_message m)) (digits (get_or m 0 0)) (digits (length m)) dash)
 
 pub retired_frames : RetiredFrames
 unfolding framing
@@ -90,5 +91,5 @@ retired_frames before m room r most fits =
     let some = has_byte r in (
       simp (le-leb 1 (length m) some, le-leb (length m) 436 most, le-leb (length (frame_of m)) room fits),
       frames_read before m some most,
-      subst (AddsLine before m) (ap reading_number ((retired_is_17 m).0 r)) (frames_listed before m some most),
+      subst (AddsLine before m) (ap number_in ((retired_is_17 m).0 r)) (frames_listed before m some most),
     )

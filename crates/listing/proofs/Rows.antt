@@ -12,11 +12,12 @@ use Rattle.collecting.specs.declared.Answer.{Answer}
 use Rattle.collecting.specs.declared.Answer.TheVariants.{Accepted, Refused}
 use Rattle.collecting.specs.Stream.{reply}
 use Rattle.collecting.specs.Claims.{Ranged}
-use Rattle.messages.specs.Message.{read_message, reading_number}
+use Rattle.messages.specs.Message.{read_message}
 use Rattle.listing.specs.declared.Lister.{Lister}
 use Rattle.listing.specs.Line.{decimal, Field, digits, dash, field, line}
 use Rattle.listing.specs.Listing.{answer_line, reply_line, last_line}
 use Rattle.listing.proofs.Texts.{one}
+use Rattle.refusals.specs.Numbers.{number_in}
 
 module _ {out mid left : List ℕ} {at next last : ℕ} where
   pub field_then : (f g : Field) (fs : List Field) → Stored out at (field f ++ (32 ∷ [])) next mid → Stored mid next (line (g ∷ fs)) last left → Stored out at (line (f ∷ g ∷ fs)) last left
@@ -58,6 +59,6 @@ position_most a n at e w =
 
 -- what an accepted message's line says, from the lent message and the number of its bytes
 pub accepted_line : (l : Lister) (a : Answer) (m : List ℕ) (k : ℕ) → a ≡ Accepted k → 1 ≤ k → k ≤ length m
-    → answer_line l (reading_number (read_message (take k m))) (digits (get_or m 0 0)) (digits k) dash ≡ reply_line l (reply a m)
+    → answer_line l (number_in (read_message (take k m))) (digits (get_or m 0 0)) (digits k) dash ≡ reply_line l (reply a m)
 unfolding reply reply_line
 accepted_line l a m k e low high = rw (e, get_or-take k m 0 0 low, length-take-le k m high)

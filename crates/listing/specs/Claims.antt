@@ -7,11 +7,12 @@ use Rattle.framing.specs.Frame.{low_first, frame_of}
 use Rattle.framing.specs.Framing.{framing}
 use Rattle.collecting.specs.Stream.{message, unflagged}
 use Rattle.collecting.specs.Claims.{Answered}
-use Rattle.messages.specs.Message.{read_message, reading_number}
+use Rattle.messages.specs.Message.{read_message}
 use Rattle.messages.specs.Claims.{Retired}
 use Rattle.listing.specs.Line.{digits, dash}
 use Rattle.listing.specs.Listing.{limit, longest, State, start, answer_line, reached, texts, header, last_line, ending, has_flag, listing, steady, taken_of}
 use Rattle.listing.specs.Stretches.{Calls, trail}
+use Rattle.refusals.specs.Numbers.{number_in}
 
 -- whatever the stretches, the header, their texts joined and the last line are the listing of the whole input, up to the limit
 abbrev pub Joined : Type 0
@@ -40,7 +41,7 @@ AddsLine before m answer =
 
 -- whatever stood before it, the frame of a message of 1 to 436 bytes is listed with what reading the message answers
 abbrev pub FramesListed : Type 0
-FramesListed = (before m : List ℕ) → 1 ≤ length m → length m ≤ 436 → AddsLine before m (reading_number (read_message m))
+FramesListed = (before m : List ℕ) → 1 ≤ length m → length m ≤ 436 → AddsLine before m (number_in (read_message m))
 
 -- recordings hold messages with a retired id (RULES 'Retired ids'). One of up to 436 bytes is framed, where there is room, and collected
 -- as any message is, and listed with 17

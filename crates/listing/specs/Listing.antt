@@ -7,10 +7,11 @@ use Rattle.collecting.specs.declared.Control.{Control}
 use Rattle.collecting.specs.declared.Collector.{Collector}
 use Rattle.collecting.specs.Step.{held, fresh, next, answer_to}
 use Rattle.collecting.specs.Stream.{Reply, nothing, message, refused, reply_to, is_answered}
-use Rattle.messages.specs.Message.{read_message, reading_number}
+use Rattle.messages.specs.Message.{read_message}
 use Rattle.listing.specs.declared.Lister.{Lister}
 use Rattle.listing.specs.declared.Processed.{Processed}
 use Rattle.listing.specs.Line.{Field, digits, dash, line}
+use Rattle.refusals.specs.Numbers.{number_in}
 
 -- as many bytes are listed at most
 abbrev pub limit : ℕ
@@ -46,7 +47,7 @@ answer_line l answer id len pos = line (digits (l.lines + 1) ∷ digits l.after 
 -- the answer is that of collecting, with its position, or of reading if collecting gave 0; nothing between two flags has no line
 unfoldable pub reply_line : Lister → Reply → List ℕ
 reply_line l nothing = []
-reply_line l (message m) = answer_line l (reading_number (read_message m)) (digits (get_or m 0 0)) (digits (length m)) dash
+reply_line l (message m) = answer_line l (number_in (read_message m)) (digits (get_or m 0 0)) (digits (length m)) dash
 reply_line l (refused n pos) = answer_line l n dash dash (digits pos)
 
 -- what a byte adds to the text

@@ -5,10 +5,11 @@ ghost use Rattle.std.specs.Prelude.{◌≡◌, ◌++◌, ◌∷◌, [], ◌+◌,
 ghost use Rattle.numbers.specs.Lent.{Stored};
 ghost use Rattle.collecting.specs.Stream.{reply, unflagged};
 ghost use Rattle.collecting.specs.Claims.{Ranged};
-ghost use Rattle.messages.specs.Message.{read_message, reading_number};
+ghost use Rattle.messages.specs.Message.{read_message};
 ghost use Rattle.listing.specs.Line.{decimal, field, shown, Short};
 ghost use Rattle.listing.specs.Listing.{limit, longest, state, answer_line, reply_line, text_of, advanced, reached, header, ending, has_flag, Sane, Processes};
 ghost use Rattle.listing.specs.Listing.{opening, start, steady, counted, passed, holds, settled};
+ghost use Rattle.refusals.specs.Numbers.{number_in};
 
 use collecting::{Answer, Control};
 
@@ -279,7 +280,7 @@ fn put_reply(out: &mut [u8], at: usize, l: Reached, answer: Answer, message: &[u
 // What reading the first k bytes answers.
 fn read_number(message: &[u8], k: usize) -> u8
     requires { k ≤ length message.now }
-    ensures { result ≡ reading_number (read_message (take k message.now)) }
+    ensures { result ≡ number_in (read_message (take k message.now)) }
 {
     match messages::read(&message[..k]) {
         Ok(_) => 0,

@@ -28,8 +28,9 @@ use Rattle.uplink.proofs.Uplinks as uplinks
 use Rattle.report.proofs.Laws as reports
 use Rattle.messages.specs.declared.Kind.{Kind}
 use Rattle.messages.specs.declared.Kind.TheVariants as kind
-use Rattle.messages.specs.Message.{kind_in, as_message, read_as, read_message, reading_number, reading_value, message_bytes, good_message, good_payload, carried}
+use Rattle.messages.specs.Message.{kind_in, as_message, read_as, read_message, reading_value, message_bytes, good_message, good_payload, carried}
 use Rattle.messages.specs.Claims.{Typed, Reads, WrittenRead, ReadWritten, ReadGood}
+use Rattle.refusals.specs.Numbers.{number_in}
 
 -- a reading is what its number and its value say
 heard : (r : Result Message Refusal) {x : Message} → reading_value r ≡ x ∷ [] → r ≡ Ok x
@@ -53,7 +54,7 @@ read_back (Geometric a) payload t p g = (simp (altitudes.geometric_written_read 
 read_back (Traffic o) payload t p g = (simp (reports.written_read 20 o.report g, g), refl)
 
 pub written_read : WrittenRead
-written_read x payload t p g = let r = read_back x payload t p g in ((ap reading_number r.0, ap reading_value r.0), r.1)
+written_read x payload t p g = let r = read_back x payload t p g in ((ap number_in r.0, ap reading_value r.0), r.1)
 
 module _ (m : List ℕ) (x : Message) where
   -- what ReadWritten and ReadGood say of one message

@@ -14,18 +14,19 @@ use Rattle.codec.proofs.Outcomes.{each_answer}
 use Rattle.message_types.specs.declared.Message.{Message}
 use Rattle.messages.specs.declared.Kind.{Kind}
 use Rattle.messages.specs.declared.Kind.TheVariants as kind
-use Rattle.messages.specs.Message.{kind_of, kind_in, kind_number, as_message, read_as, read_message, reading_number}
+use Rattle.messages.specs.Message.{kind_of, kind_in, kind_number, as_message, read_as, read_message}
 use Rattle.messages.specs.Claims.{Retired, basic, long, RetiredIs17}
+use Rattle.refusals.specs.Numbers.{number_in}
 
 -- the reader of a kind never answers 17
 never : {X : Type 0} (id size : ℕ) (value : List ℕ → X) (good : X → Bool) (wrap : X → Message) (m : List ℕ)
-    → reading_number (as_message wrap (reading id size value good m)) ≡ 17 → ⊥
+    → number_in (as_message wrap (reading id size value good m)) ≡ 17 → ⊥
 never id size value good wrap m =
-    each_answer id size value good m (λ r. reading_number (as_message wrap r) ≡ 17 → ⊥)
+    each_answer id size value good m (λ r. number_in (as_message wrap r) ≡ 17 → ⊥)
     (λ x z. omega arith) (λ z. omega arith) (λ z. omega arith) (λ z. omega arith)
 
 -- so 17 is answered for the retired kind alone
-by_kind : (k : Kind) (m : List ℕ) → reading_number (read_as k m) ≡ 17 → kind_number k ≡ 17
+by_kind : (k : Kind) (m : List ℕ) → number_in (read_as k m) ≡ 17 → kind_number k ≡ 17
 by_kind kind.Heartbeat m z = absurd (never _ _ _ _ _ m z)
 by_kind kind.Initialization m z = absurd (never _ _ _ _ _ m z)
 by_kind kind.Uplink m z = absurd (never _ _ _ _ _ m z)

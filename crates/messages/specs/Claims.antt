@@ -8,7 +8,8 @@ use Rattle.message_types.specs.declared.Message.TheVariants.{Heartbeat, Initiali
 use Rattle.altitudes.specs.Claims.{TypedHeight}
 use Rattle.refusals.specs.declared.Refusal.TheVariants.{RetiredId}
 use Rattle.uplink.specs.Uplink.{payload_of}
-use Rattle.messages.specs.Message.{message_bytes, good_message, good_payload, carried, read_message, reading_number, reading_value}
+use Rattle.messages.specs.Message.{message_bytes, good_message, good_payload, carried, read_message, reading_value}
+use Rattle.refusals.specs.Numbers.{number_in}
 
 -- the two signed fields whose range is their 16-bit type are of that type
 abbrev pub Typed : Message → Type 0
@@ -22,7 +23,7 @@ Typed (Traffic x) = Unit {0}
 
 -- reading answers 0, with this value
 abbrev pub Reads : List ℕ → Message → Type 0
-Reads m x = (reading_number (read_message m) ≡ 0) × (reading_value (read_message m) ≡ x ∷ [])
+Reads m x = (number_in (read_message m) ≡ 0) × (reading_value (read_message m) ≡ x ∷ [])
 
 -- a typed message that writing accepts, written and read, is that message, and its payload stands in its place
 abbrev pub WrittenRead : Type 0
@@ -47,4 +48,4 @@ pub data Retired : List ℕ → Type 0 where
 
 -- each is answered 17, and nothing else is
 abbrev pub RetiredIs17 : Type 0
-RetiredIs17 = (m : List ℕ) → (Retired m → read_message m ≡ Err RetiredId) × (reading_number (read_message m) ≡ 17 → Retired m)
+RetiredIs17 = (m : List ℕ) → (Retired m → read_message m ≡ Err RetiredId) × (number_in (read_message m) ≡ 17 → Retired m)

@@ -67,11 +67,7 @@ read_as kind.Unknown m = Err OtherId
 unfoldable pub read_message : List ℕ → Result Message Refusal
 read_message m = read_as (kind_in m) m
 
--- the number and the value for each answer: a refusal carries only the number
-abbrev pub reading_number : Result Message Refusal → ℕ
-reading_number (Ok x) = 0
-reading_number (Err refusal) = refusal_number refusal
-
+-- the value for each answer: a refusal has none
 abbrev pub reading_value : Result Message Refusal → List Message
 reading_value (Ok x) = x ∷ []
 reading_value (Err refusal) = []

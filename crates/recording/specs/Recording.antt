@@ -57,16 +57,6 @@ is_short bs numbers bytes = ltb (numbers / 3) (needed_by bs).entries || ltb byte
 unfoldable pub recorded : List ℕ → ℕ → ℕ → Result ℕ Refusal
 recorded bs numbers bytes = cond (is_short bs numbers bytes) (Err NoRoom) (Ok (needed_by bs).entries)
 
--- the number for each case
-abbrev pub recorded_number : Result ℕ Refusal → ℕ
-recorded_number (Ok n) = 0
-recorded_number (Err r) = refusal_number r
-
--- how many entries each case says there are
-abbrev pub recorded_entries : Result ℕ Refusal → ℕ
-recorded_entries (Ok n) = n
-recorded_entries (Err r) = 0
-
 -- what each case writes, of each answer what f makes of it
 abbrev pub recorded_output : (Reply → List ℕ) → Result ℕ Refusal → List ℕ → List ℕ
 recorded_output f (Ok n) bs = each_answer f bs

@@ -45,11 +45,7 @@ unfoldable pub ExactlyAt : ℤ → ℤ → Result Degrees Refusal → Type 0
 ExactlyAt latitude longitude (Ok d) = Exactly latitude (to_bits binary64 d.latitude) × Exactly longitude (to_bits binary64 d.longitude)
 ExactlyAt latitude longitude (Err e) = e ≡ BadField
 
--- the number and the two values for each case, 0 beside a refusal
-abbrev pub degrees_number : Result Degrees Refusal → ℕ
-degrees_number (Ok d) = 0
-degrees_number (Err e) = refusal_number e
-
+-- the two values for each case, 0 beside a refusal
 abbrev pub degrees_of : Result Degrees Refusal → Degrees
 degrees_of (Ok d) = d
 degrees_of (Err e) = record { latitude = of_bits binary64 0; longitude = of_bits binary64 0 }
