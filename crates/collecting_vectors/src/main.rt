@@ -43,6 +43,7 @@ impl Stream {
         requires { start + length piece.now ≤ 65536 }
     {
         let mut rest = piece;
+        // each call says how many bytes it took: no counted loop
         while !rest.is_empty() {
             let fed = collecting::feed(self.control, &mut self.room, &mut self.message, rest);
             self.control = fed.control;

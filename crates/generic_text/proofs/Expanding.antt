@@ -2,10 +2,10 @@
 -- Assumes nothing.
 use mathlib.Core.Path.{◌≡◌, refl, sym, ap, ◌∙◌, subst}
 use Prim.Native.Nat.{ℕ, ◌+◌, ◌-◌, ◌≤◌, min}
-use mathlib.Core.List.{List, [], ◌++◌, append_assoc, append-nil}
+use mathlib.Core.List.{List, [], ◌∷◌, ◌++◌, append_assoc, append-nil}
 use mathlib.Core.Option.{Option, none, some}
 use native.Mathlib.Omega.{arith}
-use lib.ListN.{length, take, drop, replicate, length-append, length-drop}
+use lib.ListN.{length, get_or, take, drop, replicate, length-append, length-drop}
 use lib.Seq.{sets-eq, drop-drop, length-take-le}
 use borrow.Rule.Slice.PartMut.{put_mid}
 use Rattle.std.specs.Prelude.{Option as Answer, Some, None, Result, Ok, Err}
@@ -19,6 +19,15 @@ use Rattle.generic_text.specs.declared.six_bits.Run.{Run}
 use Rattle.generic_text.specs.Texts.{before, text_of_codes}
 use Rattle.generic_text.proofs.Texts.{before_more}
 use Rattle.generic_text.specs.Codes.{codes_left, Passes, NextRun, Fits, or_no_bytes, measured}
+
+-- four elements, one by one
+pub four_elements : (l : List ℕ) → length l ≡ 4 → l ≡ get_or l 0 0 ∷ get_or l 1 0 ∷ get_or l 2 0 ∷ get_or l 3 0 ∷ []
+four_elements [] h = absurd (omega arith)
+four_elements (a ∷ []) h = absurd (omega arith)
+four_elements (a ∷ b ∷ []) h = absurd (omega arith)
+four_elements (a ∷ b ∷ c ∷ []) h = absurd (omega arith)
+four_elements (a ∷ b ∷ c ∷ d ∷ []) h = refl
+four_elements (a ∷ b ∷ c ∷ d ∷ e ∷ l) h = absurd (omega arith)
 
 -- bytes stored in a part, of which k are written
 pub stored_part : (out xs ys : List ℕ) (at k : ℕ) → at + k ≤ length out → length xs ≡ k → ys ≡ xs → Stored out at xs (at + k) (put_mid at (at + k - at) out ys)

@@ -2,20 +2,16 @@
 -- Assumes nothing.
 use mathlib.Core.Path.{◌≡◌, sym, ap, ap₂, ◌∙◌}
 use Prim.Native.Nat.{ℕ, ◌+◌, ◌-◌, ◌*◌, ◌/◌, ◌%◌, ◌^◌, ◌≤◌, ◌<◌}
-use mathlib.Core.Bool.{true}
 use mathlib.Core.List.{List, [], ◌∷◌, ◌++◌, append-nil, map}
 use mathlib.Core.Option.{none, some}
 use native.Mathlib.Omega.{arith}
-use lib.Dec.{ltb}
 use lib.ListN.{length, get_or, take, drop, replicate, length-drop}
 use lib.Seq.{take_all}
-use borrow.Author.Tests.{ltb-true}
 use Rattle.numbers.specs.Packing.{bits_of, bits_in, numbers_in}
 use Rattle.numbers.proofs.Bytes.{drop-three}
-use Rattle.numbers.proofs.Every.{both}
 use Rattle.numbers.proofs.Packing.{groups, number_first, next_number, no_number, length-bits_of, bits_more, bits_in-append, groups_first}
 use Rattle.characters.specs.Characters.{character_of}
-use Rattle.generic_text.specs.Texts.{before, text_of_codes, is_whole, AreCharacters}
+use Rattle.generic_text.specs.Texts.{before, text_of_codes}
 use Rattle.generic_text.specs.Codes.{codes_of, codes_in, Passes}
 use Rattle.generic_text.proofs.Texts.{text_end, text_character, text_none, text_characters}
 
@@ -36,13 +32,6 @@ module _ (last width : ℕ) where
     unfolding codes_of bits_in
     at_end = ap (numbers_in 6) (append-nil _) ∙ no_number 5 (bits_of width last) (omega (arith, length-bits_of width last))
 
--- bytes that are no 0 are those of characters
-whole_characters : (codes : List ℕ) → is_whole (map character_of codes) ≡ true → AreCharacters codes
-whole_characters [] h = tt
-whole_characters (c ∷ cs) h =
-    let p = both (ltb 0 (character_of c)) _ h in
-    (ltb-true 0 (character_of c) p.0, whole_characters cs p.1)
-
 -- three bytes, and those behind them
 three_rest : (bytes : List ℕ) → 3 ≤ length bytes → bytes ≡ get_or bytes 0 0 ∷ get_or bytes 1 0 ∷ get_or bytes 2 0 ∷ take (length bytes - 3) (drop 3 bytes)
 three_rest bytes h = drop-three bytes 0 h ∙ ap (λ (l : List ℕ). get_or bytes 0 0 ∷ get_or bytes 1 0 ∷ get_or bytes 2 0 ∷ l) (sym (take_all (length bytes - 3) (drop 3 bytes) (omega (arith, length-drop 3 bytes))))
@@ -61,7 +50,7 @@ four_codes last a b c rest ha hb hc =
 module _ (bytes : List ℕ) (long : 3 ≤ length bytes) (ha : get_or bytes 0 0 < 256) (hb : get_or bytes 1 0 < 256) (hc : get_or bytes 2 0 < 256) (m : ℕ) (joined : m ≡ (get_or bytes 0 0 * 256 + get_or bytes 1 0) * 256 + get_or bytes 2 0) where
   pub four_more : (last width : ℕ) (left : List ℕ) (w x y z : ℕ) → width ≡ 0 → left ≡ codes_in (take (length bytes - 3) (drop 3 bytes))
       → w ≡ character_of (m / 262144 % 64) → x ≡ character_of (m / 4096 % 64) → y ≡ character_of (m / 64 % 64) → z ≡ character_of (m % 64)
-      → is_whole (w ∷ x ∷ y ∷ z ∷ []) ≡ true → Passes (codes_of width last bytes) (w ∷ x ∷ y ∷ z ∷ []) left
+      → (0 < w) × (0 < x) × (0 < y) × (0 < z) → Passes (codes_of width last bytes) (w ∷ x ∷ y ∷ z ∷ []) left
   four_more last width left w x y z empty behind e f g h whole =
       let codes : List ℕ = m / 262144 % 64 ∷ m / 4096 % 64 ∷ m / 64 % 64 ∷ m % 64 ∷ [] in
       let same : w ∷ x ∷ y ∷ z ∷ [] ≡ map character_of codes = rw (e, f, g, h) in
@@ -71,7 +60,7 @@ module _ (bytes : List ℕ) (long : 3 ≤ length bytes) (ha : get_or bytes 0 0 <
       ∙ ap₂ (λ (n : ℕ) (l : List ℕ). groups 6 4 n ++ l) (sym joined) (sym behind)
       ∙ ap (λ (n : ℕ). m / 262144 % 64 ∷ m / 4096 % 64 ∷ m / 64 % 64 ∷ n % 64 ∷ left) (omega arith) in
       record {
-        is = ap text_of_codes is ∙ text_characters codes left (whole_characters codes (ap is_whole (sym same) ∙ whole)) ∙ ap (λ (l : List ℕ). before l (text_of_codes left)) (sym same);
+        is = ap text_of_codes is ∙ text_characters codes left (omega (arith, e), (omega (arith, f), (omega (arith, g), (omega (arith, h), tt)))) ∙ ap (λ (l : List ℕ). before l (text_of_codes left)) (sym same);
         fewer = omega (arith, ap length is);
       }
 

@@ -1,6 +1,6 @@
 -- The text that codes of six bits make (001 §5.2.2.2; RULES 'Weather texts').
 -- Assumes nothing.
-use Rattle.std.specs.Prelude.{ℕ, ◌<◌, Bool, true, cond, ◌&&◌, List, [], ◌∷◌, ◌++◌, eqb, ltb, replicate}
+use Rattle.std.specs.Prelude.{ℕ, ◌<◌, cond, List, [], ◌∷◌, ◌++◌, eqb, replicate}
 use Rattle.std.proofs.Math.Option.{Option, none, some}
 use Rattle.characters.specs.Characters.{character_of}
 
@@ -31,11 +31,6 @@ text_of_codes (c ∷ n ∷ cs) =
     cond (eqb c end) (some [])
     (cond (eqb c tab) (before (replicate n space) (text_of_codes cs))
     (before_character c (text_of_codes (n ∷ cs))))
-
--- no byte is 0, which stands for no character
-abbrev pub is_whole : List ℕ → Bool
-is_whole [] = true
-is_whole (b ∷ bs) = ltb 0 b && is_whole bs
 
 -- every code is a character's
 abbrev pub AreCharacters : List ℕ → Type 0

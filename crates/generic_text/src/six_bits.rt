@@ -1,7 +1,6 @@
 // Codes of six bits, packed into bytes high bit first, and the characters and tabs that they are (001 §5.2.2.2).
 ghost use Rattle.std.specs.Prelude.{◌≡◌, ◌%◌, ◌<◌, ◌≤◌};
 ghost use Rattle.characters.specs.Characters.{character_of};
-ghost use Rattle.generic_text.specs.Texts.{is_whole};
 
 use refusals::Refusal;
 
@@ -53,17 +52,17 @@ impl<'a> Codes<'a> {
         let [a, b, c, rest @ ..] = self.rest else {
             return None;
         };
-        let codes = u32::from_be_bytes([0, *a, *b, *c]);
-        let four = [
-            character(codes / 262144 % 64),
-            character(codes / 4096 % 64),
-            character(codes / 64 % 64),
-            character(codes % 64),
-        ];
-        if !is_whole(four) {
+        let high = (*a as u32) * 256 + *b as u32;
+        let codes = high * 256 + *c as u32;
+        let w = character(codes / 262144 % 64);
+        let x = character(codes / 4096 % 64);
+        let y = character(codes / 64 % 64);
+        let z = character(codes % 64);
+        // the least of them is 0 where one is none: of four tests the compiler makes slower ones of bits
+        if w.min(x).min(y.min(z)) == 0 {
             return None;
         }
-        Some((four, Codes::new(rest)))
+        Some(([w, x, y, z], Codes::new(rest)))
     }
 
     // The next character, or a tab's spaces, and what is left behind them; nothing where the text ends.
@@ -121,12 +120,4 @@ fn character(code: u32) -> u8
     ensures { result ≡ character_of code }
 {
     CHARACTERS[code as usize]
-}
-
-// Each of four codes is a character's.
-fn is_whole(four: [u8; 4]) -> bool
-    ensures { result ≡ is_whole four }
-{
-    let [a, b, c, d] = four;
-    ((0 < a) & (0 < b)) & ((0 < c) & (0 < d))
 }

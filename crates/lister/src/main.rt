@@ -117,6 +117,7 @@ impl Run {
         let mut space = [0u8; 4096];
         let out: &mut [u8] = &mut space;
         let mut rest = bytes;
+        // each call says how many bytes it took: no counted loop
         while !rest.is_empty() {
             let processed = listing::process(self.lister, &mut self.room, rest, out);
             self.lister = processed.lister;

@@ -1,8 +1,7 @@
 -- What is proved of the listing (RULES 'Listing'), over the definitions that the contracts cite.
 -- Assumes nothing.
-use Rattle.std.specs.Prelude.{◌≡◌, List, [], ◌∷◌, ◌++◌, ℕ, ◌≤◌, ◌<◌, ltb, length, take, get_or}
+use Rattle.std.specs.Prelude.{◌≡◌, List, [], ◌∷◌, ◌++◌, ℕ, ◌≤◌, ◌<◌, ltb, Ok, length, take, get_or}
 use Rattle.fcs.specs.Fcs.{fcs}
-use Rattle.framing.specs.declared.Framed.TheVariants.{Bytes}
 use Rattle.framing.specs.Stuffing.{flag}
 use Rattle.framing.specs.Frame.{low_first, frame_of}
 use Rattle.framing.specs.Framing.{framing}
@@ -48,4 +47,4 @@ FramesListed = (before m : List ℕ) → 1 ≤ length m → length m ≤ 436 →
 abbrev pub RetiredFrames : Type 0
 RetiredFrames =
     (before m : List ℕ) (room : ℕ) → Retired m → length m ≤ 436 → length (frame_of m) ≤ room
-    → (framing m room ≡ Bytes (length (frame_of m))) × Answered before (m ++ low_first (fcs m)) (λ at. message m) × AddsLine before m 17
+    → (framing m room ≡ Ok (length (frame_of m))) × Answered before (m ++ low_first (fcs m)) (λ at. message m) × AddsLine before m 17

@@ -11,7 +11,6 @@ ghost use Rattle.listing.specs.Listing.{limit, longest, state, answer_line, repl
 ghost use Rattle.listing.specs.Listing.{opening, start, steady, counted, passed, holds, settled};
 
 use collecting::{Answer, Control};
-use message_types::Reading;
 
 // As many bytes are listed at most.
 pub const LIMIT: u64 = 4294967295;
@@ -101,6 +100,8 @@ pub fn process(lister: Lister, room: &mut [u8; 438], bytes: &[u8], out: &mut [u8
     let mut i = 0;
     let mut at = 0;
     let end = up_to_limit(l.lister.taken, bytes.len());
+    // each pass says how many bytes it took: no counted loop. The room of a line as `out[at..].first_chunk_mut::<LONGEST>()`, with no `at`
+    // handed on, was tried: left open was that a line stored at the front of that room is stored at `at`
     while LONGEST <= out.len() - at {
         let p = pass(l, room, &bytes[i..end]);
         l = p.l;
@@ -280,15 +281,9 @@ fn read_number(message: &[u8], k: usize) -> u8
     requires { k ≤ length message.now }
     ensures { result ≡ reading_number (read_message (take k message.now)) }
 {
-    number_of(messages::read(&message[..k]))
-}
-
-fn number_of(reading: Reading) -> u8
-    ensures { result ≡ reading_number reading }
-{
-    match reading {
-        Reading::Message(_) => 0,
-        Reading::Refused(n) => n,
+    match messages::read(&message[..k]) {
+        Ok(_) => 0,
+        Err(refusal) => refusal.number(),
     }
 }
 
@@ -340,6 +335,7 @@ fn put_decimal(out: &mut [u8], at: usize, n: u64) -> usize
     ensures { Stored out.old at (decimal n) result out.new }
 {
     let end = at + digit_count(n);
+    // by what is left of the number: a `for` over the places needs the same two lines, and that 0 is left at the end
     let mut rest = n;
     let mut p = end - 1;
     while 10 <= rest {

@@ -4,11 +4,7 @@
 // rust/reference. A write that fails is passed over.
 #![tactic(auto)]
 
-use codec::Written;
-use message_types::{
-    Altitude, CallSign, Climb, GeometricAltitude, Heartbeat, Height, Initialization, Merit,
-    Message, Position, Reading, Reception, Report, Speed,
-};
+use message_types::{CallSign, Climb, GeometricAltitude, Heartbeat, Merit, Message, Report, Speed};
 use printing::{Hex, Records};
 use std::fmt;
 
@@ -16,13 +12,30 @@ use std::fmt;
 #[derive(Clone, Copy)]
 struct Text<T>(T);
 
+// A field, or the word for its mark.
+#[derive(Clone, Copy)]
+struct OrNone<T>(Option<T>);
+
+impl<T: fmt::Display> fmt::Display for OrNone<T> {
+    fn fmt<W: fmt::Write>(&self, f: &mut fmt::Formatter<W>) -> fmt::Result {
+        match &self.0 {
+            Some(field) => write!(f, "{field}"),
+            None => write!(f, "none"),
+        }
+    }
+}
+
 impl fmt::Display for Text<Message> {
     fn fmt<W: fmt::Write>(&self, f: &mut fmt::Formatter<W>) -> fmt::Result {
         match self.0 {
             Message::Heartbeat(x) => write!(f, "heartbeat {}", Text(x)),
             Message::Initialization(x) => write!(f, "initialization {} {}", x.first, x.second),
-            Message::Uplink(x) => write!(f, "uplink {}", Text(x.reception)),
-            Message::Height(x) => write!(f, "height {}", Text(x.height)),
+            Message::Uplink(x) => write!(f, "uplink {}", OrNone(x.reception)),
+            Message::Height(x) => write!(
+                f,
+                "height {}",
+                OrNone(x.height.map(|height| height.feet()))
+            ),
             Message::Ownship(x) => write!(f, "ownship {}", Text(x.report)),
             Message::Geometric(x) => write!(f, "geometric {}", Text(x)),
             Message::Traffic(x) => write!(f, "traffic {}", Text(x.report)),
@@ -38,24 +51,6 @@ impl fmt::Display for Text<Heartbeat> {
             "{} {} {} {} {} {}",
             x.status1, x.status2, x.time, x.uplinks, x.reserved, x.basic_and_long
         )
-    }
-}
-
-impl fmt::Display for Text<Reception> {
-    fn fmt<W: fmt::Write>(&self, f: &mut fmt::Formatter<W>) -> fmt::Result {
-        match self.0 {
-            Reception::Steps(steps) => write!(f, "{steps}"),
-            Reception::None => write!(f, "none"),
-        }
-    }
-}
-
-impl fmt::Display for Text<Height> {
-    fn fmt<W: fmt::Write>(&self, f: &mut fmt::Formatter<W>) -> fmt::Result {
-        match self.0 {
-            Height::Feet(feet) => write!(f, "{}", feet.feet()),
-            Height::None => write!(f, "none"),
-        }
     }
 }
 
@@ -87,33 +82,15 @@ impl fmt::Display for Text<Report> {
     fn fmt<W: fmt::Write>(&self, f: &mut fmt::Formatter<W>) -> fmt::Result {
         let x = self.0;
         write!(f, "{} {} {} ", x.alert, x.address_type, x.address)?;
-        write!(f, "{} {} ", Text(x.position), Text(x.altitude))?;
+        let latitude = OrNone(x.position.map(|position| position.latitude));
+        let longitude = OrNone(x.position.map(|position| position.longitude));
+        let altitude = OrNone(x.altitude.map(|steps| steps.feet()));
+        write!(f, "{latitude} {longitude} {altitude} ")?;
         write!(f, "{} {} ", x.track_kind as u8, Text(x.extrapolated))?;
         write!(f, "{} {} {} ", Text(x.airborne), x.integrity, x.accuracy)?;
         write!(f, "{} {} ", Text(x.speed), Text(x.climb))?;
         write!(f, "{} {} {} ", x.track, x.emitter, Text(x.call_sign))?;
         write!(f, "{} {}", x.priority, x.spare)
-    }
-}
-
-impl fmt::Display for Text<Position> {
-    fn fmt<W: fmt::Write>(&self, f: &mut fmt::Formatter<W>) -> fmt::Result {
-        match self.0 {
-            Position::At {
-                latitude,
-                longitude,
-            } => write!(f, "{latitude} {longitude}"),
-            Position::None => write!(f, "none none"),
-        }
-    }
-}
-
-impl fmt::Display for Text<Altitude> {
-    fn fmt<W: fmt::Write>(&self, f: &mut fmt::Formatter<W>) -> fmt::Result {
-        match self.0 {
-            Altitude::Known(steps) => write!(f, "{}", steps.feet()),
-            Altitude::None => write!(f, "none"),
-        }
     }
 }
 
@@ -149,23 +126,23 @@ impl fmt::Display for Text<CallSign> {
 fn print_written(rt: &impl Print, message: Message, payload: &[u8]) {
     let mut out = [0u8; 436];
     match messages::write(message, payload, &mut out) {
-        Written::Bytes(n) => {
+        Ok(n) => {
             printing::hex_bytes(rt, &out, n);
         }
-        Written::Refused(n) => {
-            let _ = print!(rt; "refused {n}");
+        Err(refusal) => {
+            let _ = print!(rt; "refused {}", refusal.number());
         }
     }
 }
 
 fn print_read(rt: &impl Print, part: &[u8]) {
     match messages::read(part) {
-        Reading::Message(message) => {
+        Ok(message) => {
             let _ = print!(rt; "0 {} ", Text(message));
             print_written(rt, message, uplink::payload(part));
         }
-        Reading::Refused(n) => {
-            let _ = print!(rt; "{n}");
+        Err(refusal) => {
+            let _ = print!(rt; "{}", refusal.number());
         }
     }
     let _ = println!(rt; "");

@@ -77,6 +77,7 @@ pub fn read_full<R: Read>(input: &mut R, buffer: &mut [u8]) -> usize
     ensures within { result ≤ length buffer.new }
     ensures bytes { Consumes (R.remaining input.old) (R.remaining input.new) (take result buffer.new) }
 {
+    // no `read_exact`: after a failure it doesn't say how many bytes came, and the clause `bytes` does
     let mut filled = 0;
     while filled < buffer.len() {
         let Ok(n) = input.read(&mut buffer[filled..]) else {

@@ -5,16 +5,17 @@ use Prim.Native.Nat.{◌+◌, ◌≤◌}
 use native.Mathlib.Omega.{arith}
 use lib.ListN.{length, length-replicate}
 use Rattle.numbers.proofs.Storing.{stored-length}
-use Rattle.generic_text.proofs.Expanding.{stored_part, filled, expand_more, run_passes, told, run_ends, expand_room, expand_end, no_fault}
+use Rattle.generic_text.proofs.Expanding.{four_elements, stored_part, filled, expand_more, run_passes, told, run_ends, expand_room, expand_end, no_fault}
 use Rattle.generic_text.proofs.expand.Goals as goal
+
+pub put_four-at-requires : goal.put_four-at-requires
+put_four-at-requires c = omega (arith, expand_room _ c.loop-next.invariant.1 _ c.in-Some.ensures.0 c.requires, c.in-Some.ensures.1, c.loop-next.invariant.0)
 
 pub loop-next-preserved-in-Some : goal.loop-next-preserved-in-Some
 loop-next-preserved-in-Some c =
     let l = c.loop-next in
-    let h = c.in-Some.ensures.0 in
-    let room = expand_room _ l.invariant.1 _ h c.requires in
-    let s = stored_part l.out _ _ l.at 4 (omega (arith, room, c.in-Some.ensures.1, l.invariant.0)) c.in-Some.ensures.1 c.copy_from_slice.ensures.after in
-    (stored-length s ∙ l.invariant.0, expand_more _ l.invariant.1 _ h s)
+    let s = rw (← four_elements c.in-Some.next.0 c.in-Some.ensures.1) at c.put_four-at.ensures in
+    (c.put_four-at.auto.out ∙ l.invariant.0, expand_more _ l.invariant.1 _ c.in-Some.ensures.0 s)
 
 pub loop-next-preserved : goal.loop-next-preserved
 loop-next-preserved c =
