@@ -32,6 +32,6 @@ returns-in-Ok-clause-exact c =
     exact c.args.latitude c.args.longitude {d = Ok c.in-Ok.d} c.ranges.latitude c.ranges.longitude (sym c.in-Ok.is ∙ c.in_degrees.ensures.value)
 
 pub returns-in-Err-clause-exact : goal.returns-in-Err-clause-exact
-returns-in-Err-clause-exact c = λ z.
-    exact c.args.latitude c.args.longitude {d = Err c.in-Err.refusal} c.ranges.latitude c.ranges.longitude (sym c.in-Err.is ∙ c.in_degrees.ensures.value)
-    (sym c.number.ensures ∙ z)
+returns-in-Err-clause-exact c =
+    rw c.number.ensures
+    (exact c.args.latitude c.args.longitude {d = Err c.in-Err.refusal} c.ranges.latitude c.ranges.longitude (sym c.in-Err.is ∙ c.in_degrees.ensures.value))
