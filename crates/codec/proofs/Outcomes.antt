@@ -2,25 +2,17 @@
 -- Assumes nothing.
 use mathlib.Core.Path.{◌≡◌, refl, sym, ap, ◌∙◌, subst, subst₂}
 use mathlib.Core.Bool.{Bool, true, false, cond}
-use Prim.Native.Nat.{ℕ, ◌≤◌, ◌<◌}
-use mathlib.Core.List.{List, ◌++◌}
+use Prim.Native.Nat.{ℕ}
+use mathlib.Core.List.{List}
 use lib.Dec.{eqb}
-use lib.ListN.{length, drop, get_or}
-use borrow.Author.Tests.{eqb-true, ne_eqb, le-leb, lt-leb}
+use lib.ListN.{length, get_or}
+use borrow.Author.Tests.{eqb-true, ne_eqb}
 use Rattle.std.specs.Prelude.{Result, Ok, Err}
 use Rattle.numbers.specs.Lent.{written}
 use Rattle.refusals.specs.declared.Refusal.{Refusal}
-use Rattle.refusals.specs.declared.Refusal.TheVariants.{OtherId, WrongLength, BadField, NoRoom}
+use Rattle.refusals.specs.declared.Refusal.TheVariants.{OtherId, WrongLength, BadField}
 use Rattle.codec.specs.Reading.{fit, held, reading}
 use Rattle.codec.specs.Writing.{writing, Wrote}
-
-pub no_room : (bytes out : List ℕ) → length out < length bytes → Wrote true bytes out (Err NoRoom) out
-unfolding writing written
-no_room bytes out h = record { answers = simp (lt-leb (length bytes) (length out) h); leaves = refl }
-
-pub stored : (bytes out first : List ℕ) → length bytes ≤ length out → first ≡ bytes → Wrote true bytes out (Ok (length bytes)) (first ++ drop (length bytes) out)
-unfolding writing written
-stored bytes out first h e = record { answers = simp (le-leb (length bytes) (length out) h); leaves = ap (λ (l : List ℕ). l ++ drop (length bytes) out) e }
 
 -- a good value's bytes, put
 pub wrote : {good : Bool} {bytes b out left : List ℕ} {r : Result ℕ Refusal} → good ≡ true → b ≡ bytes → Wrote true b out r left → Wrote good bytes out r left
