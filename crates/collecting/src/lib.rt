@@ -195,63 +195,69 @@ pub fn word(high: u8, low: u8) -> u16
     u16::from_be_bytes([high, low])
 }
 
-// The first k bytes, and zeros behind them.
+// The first k bytes, and zeros behind them. By `copy_from_slice` and `fill`, which is plainer, a stream of escaped messages took 3 in 100
+// longer (5.76 ns a byte, then 5.97), which misses the bar.
 fn show(bytes: &[u8], k: usize, message: &mut [u8; 436])
     requires { (k ≤ length bytes.now) × (k ≤ 436) }
     ensures { message.new ≡ take k bytes.now ++ replicate (436 - k) 0 }
 {
-    message[..k].copy_from_slice(&bytes[..k]);
-    message[k..].fill(0);
+    *message = [0u8; 436];
+    let mut i = 0;
+    while i < k {
+        message[i] = bytes[i];
+        i += 1;
+    }
 }
 
-// A byte that is no flag.
+// A byte that is no flag. `collect` and `after_escape` take n and `at`: tried with a Control in their place, also with `..control`
+// here, a stream of flags took a ninth longer (8.2 ns a byte, then 9.1), which misses the bar.
 fn inside_frame(control: Control, room: &mut [u8; 438], byte: u8) -> Control
     requires { control.stuffed ≤ 878 }
     ensures { held result room.new ≡ inside control.phase (held control room.old) byte }
 {
-    let taken = Control {
-        stuffed: control.stuffed + 1,
-        ..control
-    };
-    match control.phase {
+    let n = control.count;
+    let at = control.stuffed;
+    let phase = control.phase;
+    match phase {
         Phase::Open => {
             if byte == 0x7D {
                 Control {
+                    count: n,
+                    stuffed: at + 1,
                     phase: Phase::Escape,
-                    ..taken
                 }
             } else {
-                collect(taken, room, byte)
+                collect(n, at + 1, room, byte)
             }
         }
-        Phase::Escape => after_escape(taken, room, byte),
+        Phase::Escape => after_escape(n, at + 1, room, byte),
         _ => control,
     }
 }
 
-// A byte that is no flag, behind 0x7D; it is counted among the stuffed ones.
-fn after_escape(control: Control, room: &mut [u8; 438], byte: u8) -> Control
-    ensures { held result room.new ≡ unescaped control.count control.stuffed room.old byte }
+// A byte that is no flag, behind 0x7D, with which `at` stuffed bytes are taken.
+fn after_escape(n: usize, at: usize, room: &mut [u8; 438], byte: u8) -> Control
+    ensures { held result room.new ≡ unescaped n at room.old byte }
 {
     if (byte == 0x5D) | (byte == 0x5E) {
-        return collect(control, room, byte ^ 0x20);
+        return collect(n, at, room, byte ^ 0x20);
     }
-    clear(Phase::BadEscape, control.stuffed, room)
+    clear(Phase::BadEscape, at, room)
 }
 
-// One collected byte more; its stuffed ones are counted.
-fn collect(control: Control, room: &mut [u8; 438], byte: u8) -> Control
-    ensures { held result room.new ≡ collected control.count control.stuffed room.old byte }
+// One collected byte more, behind n others, with which `at` stuffed bytes are taken.
+fn collect(n: usize, at: usize, room: &mut [u8; 438], byte: u8) -> Control
+    ensures { held result room.new ≡ collected n at room.old byte }
 {
-    if control.count < 438 {
-        room[control.count] = byte;
+    if n < 438 {
+        room[n] = byte;
         return Control {
-            count: control.count + 1,
-            stuffed: control.stuffed,
+            count: n + 1,
+            stuffed: at,
             phase: Phase::Open,
         };
     }
-    clear(Phase::TooLong, control.stuffed, room)
+    clear(Phase::TooLong, at, room)
 }
 
 #[derive(Clone, Copy, Debug, PartialEq, Eq, Hash)]

@@ -9,9 +9,9 @@ pub returns-then-byte : goal.returns-then-byte
 unfolding ◌⊕◌
 returns-then-byte c =
     let a = c.args in
-    c.collect.ensures ∙ unescaped_good a.control.count a.control.stuffed a.room.now a.byte c.if-byte.true
+    c.collect.ensures ∙ unescaped_good a.n a.at a.room.now a.byte c.if-byte.true
 
 pub returns : goal.returns
 returns c =
     let a = c.args in
-    c.clear.ensures ∙ unescaped_bad a.control.count a.control.stuffed a.room.now a.byte c.if-byte.false
+    c.clear.ensures ∙ unescaped_bad a.n a.at a.room.now a.byte c.if-byte.false

@@ -4,10 +4,10 @@ use mathlib.Core.Path.{◌∙◌}
 use Rattle.collecting.proofs.Cases.{collected_room, collected_full}
 use Rattle.collecting.proofs.collect.Goals as goal
 
-pub returns-then-control-lt438 : goal.returns-then-control-lt438
-returns-then-control-lt438 c = collected_room c.args.control.count c.args.control.stuffed c.args.room.now c.args.byte c.if-control-lt438.true
+pub returns-then-n-lt438 : goal.returns-then-n-lt438
+returns-then-n-lt438 c = collected_room c.args.n c.args.at c.args.room.now c.args.byte c.if-n-lt438.true
 
 pub returns : goal.returns
 returns c =
     let a = c.args in
-    c.clear.ensures ∙ collected_full a.control.count a.control.stuffed a.room.now a.byte c.if-control-lt438.false
+    c.clear.ensures ∙ collected_full a.n a.at a.room.now a.byte c.if-n-lt438.false
