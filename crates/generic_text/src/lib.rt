@@ -102,14 +102,27 @@ fn expand(codes: Codes, out: &mut [u8])
             at = put_four(out, at, four[0], four[1], four[2], four[3]);
             codes = next.1;
         } else if let Some((run, rest)) = codes.next_run().unwrap_or(None) {
-            let end = at + run.times as usize;
-            out[at..end].fill(run.byte);
-            at = end;
+            at = fill(out, at, run.byte, run.times);
             codes = rest;
         } else {
             return;
         }
     }
+}
+
+// A byte so many times from `at` on.
+fn fill(out: &mut [u8], at: usize, byte: u8, times: u8) -> usize
+    requires { at + times ≤ length out.old }
+    ensures { Stored out.old at (replicate times byte) result out.new }
+{
+    let mut next = at;
+    let mut left = times;
+    while 0 < left {
+        out[next] = byte;
+        next += 1;
+        left -= 1;
+    }
+    next
 }
 
 // Four bytes from `at` on: four stores, which the compiler makes one of. Tried: `copy_from_slice` of the four copies them twice, and

@@ -96,7 +96,7 @@ impl<'a> Codes<'a> {
     fn next_code(self) -> Option<(u8, Codes<'a>)>
         ensures { NextCode self.entry result }
     {
-        if self.width == 6 {
+        if 6 <= self.width {
             let rest = Codes {
                 table: self.table,
                 last: self.last,
