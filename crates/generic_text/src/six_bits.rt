@@ -96,6 +96,7 @@ impl<'a> Codes<'a> {
     fn next_code(self) -> Option<(u8, Codes<'a>)>
         ensures { NextCode self.entry result }
     {
+        // not `==`: with that the compiler tests for 6 before each four, and reading misses its bar
         if 6 <= self.width {
             let rest = Codes {
                 table: self.table,
