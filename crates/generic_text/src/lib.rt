@@ -102,14 +102,28 @@ fn expand(codes: Codes, out: &mut [u8])
             at = put_four(out, at, four[0], four[1], four[2], four[3]);
             codes = next.1;
         } else if let Some((run, rest)) = codes.next_run().unwrap_or(None) {
-            let end = at + run.times as usize;
-            out[at..end].fill(run.byte);
-            at = end;
+            at = fill(out, at, run.byte, run.times);
             codes = rest;
         } else {
             return;
         }
     }
+}
+
+// A byte so many times from `at` on. Tried: `out[at..end].fill(byte)` in `expand` takes the registers of its loop, and a long text is
+// read in 1084 ns in the place of 984 (980 before it).
+fn fill(out: &mut [u8], at: usize, byte: u8, times: u8) -> usize
+    requires { at + times ≤ length out.old }
+    ensures { Stored out.old at (replicate times byte) result out.new }
+{
+    let mut next = at;
+    let mut left = times;
+    while 0 < left {
+        out[next] = byte;
+        next += 1;
+        left -= 1;
+    }
+    next
 }
 
 // Four bytes from `at` on: four stores, which the compiler makes one of. Tried: `copy_from_slice` of the four copies them twice, and
@@ -201,7 +215,8 @@ fn listed_code(byte: u8) -> u8
     29
 }
 
-// The three bytes of four codes.
+// The three bytes of four codes. The place is told, and not a part lent as `&mut out[at..]`, which is no plainer: each caller would cut
+// and then add the 3 by itself, and `Stored` speaks of places in the whole.
 fn put_three(out: &mut [u8], at: usize, a: u8, b: u8, c: u8, d: u8) -> usize
     requires { (at + 3 ≤ length out.old) × ((a < 64) × (b < 64) × (c < 64) × (d < 64)) }
     ensures { Stored out.old at (three_of a b c d) result out.new }

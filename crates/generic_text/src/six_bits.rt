@@ -96,7 +96,8 @@ impl<'a> Codes<'a> {
     fn next_code(self) -> Option<(u8, Codes<'a>)>
         ensures { NextCode self.entry result }
     {
-        if self.width == 6 {
+        // not `==`: with that the compiler tests for 6 before each four, and reading misses its bar
+        if 6 <= self.width {
             let rest = Codes {
                 table: self.table,
                 last: self.last,

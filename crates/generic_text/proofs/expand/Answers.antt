@@ -17,16 +17,17 @@ loop-next-preserved-in-Some c =
     let s = rw (← four_elements c.in-Some.next.0 c.in-Some.ensures.1) at c.put_four-at.ensures in
     (c.put_four-at.auto.out ∙ l.invariant.0, expand_more _ l.invariant.1 _ c.in-Some.ensures.0 s)
 
+pub fill-at-requires : goal.fill-at-requires
+fill-at-requires c =
+    let l = c.loop-next in
+    let h = run_passes (c.in-Some-unwrap_or.run', c.in-Some-unwrap_or.rest) c.next_run.ensures (told _ (sym c.unwrap_or.ensures ∙ c.in-Some-unwrap_or.is)) in
+    omega (arith, expand_room _ l.invariant.1 _ h c.requires, length-replicate c.in-Some-unwrap_or.run'.times c.in-Some-unwrap_or.run'.byte, l.invariant.0)
+
 pub loop-next-preserved : goal.loop-next-preserved
 loop-next-preserved c =
     let l = c.loop-next in
     let h = run_passes (c.in-Some-unwrap_or.run', c.in-Some-unwrap_or.rest) c.next_run.ensures (told _ (sym c.unwrap_or.ensures ∙ c.in-Some-unwrap_or.is)) in
-    let room = expand_room _ l.invariant.1 _ h c.requires in
-    let k = c.in-Some-unwrap_or.run'.times in
-    let size = length-replicate k c.in-Some-unwrap_or.run'.byte in
-    let fits : l.at + k ≤ length l.out = omega (arith, room, size, l.invariant.0) in
-    let s = stored_part l.out _ _ l.at k fits size (filled l.out l.at k _ _ fits (c.fill.ensures.after (λ y e. e))) in
-    (stored-length s ∙ l.invariant.0, expand_more _ l.invariant.1 _ h s)
+    (stored-length c.fill-at.ensures ∙ l.invariant.0, expand_more _ l.invariant.1 _ h c.fill-at.ensures)
 
 pub returns-in_default-unwrap_or : goal.returns-in_default-unwrap_or
 returns-in_default-unwrap_or c =

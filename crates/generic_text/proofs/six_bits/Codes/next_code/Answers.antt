@@ -8,8 +8,8 @@ use Rattle.generic_text.specs.Codes.{codes_of}
 use Rattle.generic_text.proofs.Walking.{six_left, byte_more, at_end}
 use Rattle.generic_text.proofs.six_bits.Codes.next_code.Goals as goal
 
-pub returns-then-self-eq6 : goal.returns-then-self-eq6
-returns-then-self-eq6 c = (six_left _ _ _ (omega arith), omega arith)
+pub returns-then-self-ge6 : goal.returns-then-self-ge6
+returns-then-self-ge6 c = (six_left _ _ _ (omega (arith, c.args.self.few)), omega arith)
 
 pub returns-in_default : goal.returns-in_default
 returns-in_default c =
