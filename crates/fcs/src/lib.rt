@@ -40,7 +40,7 @@ fn with_pair(r: u16, a: u8, b: u8) -> u16
     let first = word(r / 4096) % 16 * 4096;
     let second = word(t / 256) % 256 * 256;
     let third = word(q / 16) % 4096 * 16;
-    first ^ second ^ third ^ word(q) ^ (256 * (a as u16) + (b as u16))
+    first ^ second ^ third ^ word(q) ^ u16::from_be_bytes([a, b])
 }
 
 // The word of the lowest half byte: word i is the sequence of the message i, 00, 00. The table is a match, since a

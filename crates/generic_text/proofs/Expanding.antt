@@ -1,13 +1,11 @@
 -- Walking over a whole text: its length counted, and its bytes stored.
 -- Assumes nothing.
 use mathlib.Core.Path.{◌≡◌, refl, sym, ap, ◌∙◌, subst}
-use Prim.Native.Nat.{ℕ, ◌+◌, ◌-◌, ◌≤◌, min}
-use mathlib.Core.List.{List, [], ◌∷◌, ◌++◌, append_assoc, append-nil}
+use Prim.Native.Nat.{ℕ, ◌+◌, ◌≤◌, min}
+use mathlib.Core.List.{List, [], ◌∷◌, ◌++◌, append-nil}
 use mathlib.Core.Option.{Option, none, some}
 use native.Mathlib.Omega.{arith}
-use lib.ListN.{length, get_or, take, drop, replicate, length-append, length-drop}
-use lib.Seq.{sets-eq, drop-drop, length-take-le}
-use borrow.Rule.Slice.PartMut.{put_mid}
+use lib.ListN.{length, get_or, replicate, length-append}
 use Rattle.std.specs.Prelude.{Option as Answer, Some, None, Result, Ok, Err}
 use Rattle.std.specs.Result.{result_unwrap_or}
 use Rattle.numbers.specs.Lent.{written, Stored}
@@ -28,19 +26,6 @@ four_elements (a ∷ b ∷ []) h = absurd (omega arith)
 four_elements (a ∷ b ∷ c ∷ []) h = absurd (omega arith)
 four_elements (a ∷ b ∷ c ∷ d ∷ []) h = refl
 four_elements (a ∷ b ∷ c ∷ d ∷ e ∷ l) h = absurd (omega arith)
-
--- bytes stored in a part, of which k are written
-pub stored_part : (out xs ys : List ℕ) (at k : ℕ) → at + k ≤ length out → length xs ≡ k → ys ≡ xs → Stored out at xs (at + k) (put_mid at (at + k - at) out ys)
-stored_part out xs ys at k h n e = record {
-  ends = ap (λ (m : ℕ). at + m) (sym n);
-  leaves =
-      let same : at + (at + k - at) ≡ at + length xs = omega (arith, n) in
-      rw (e, sets-eq xs out at (omega (arith, n)), drop-drop, same) (sym (append_assoc (take at out) xs _));
-}
-
--- of so many places, so many bytes
-pub filled : (out : List ℕ) (at k b : ℕ) (xs : List ℕ) → at + k ≤ length out → xs ≡ replicate (length (take (at + k - at) (drop at out))) b → xs ≡ replicate k b
-filled out at k b xs h e = e ∙ ap (λ (n : ℕ). replicate n b) (omega (arith, length-take-le (at + k - at) (drop at out) (omega (arith, length-drop at out))))
 
 -- bytes before a text, told apart from it
 told_apart : (xs rest : List ℕ) (t : Option (List ℕ)) → before xs t ≡ some rest → (t ≡ some (or_no_bytes t)) × (rest ≡ xs ++ or_no_bytes t)

@@ -4,7 +4,6 @@ use Rattle.std.specs.Prelude.{◌≡◌, ℕ, cond, List, [], Result, Ok, Err, l
 use Rattle.numbers.specs.Lent.{written}
 use Rattle.refusals.specs.declared.Refusal.{Refusal}
 use Rattle.refusals.specs.declared.Refusal.TheVariants.{BadField, NoRoom, NoCharacter}
-use Rattle.refusals.specs.Numbers.{refusal_number}
 use Rattle.codec.specs.Writing.{written_output}
 use Rattle.characters.specs.Characters.{are_listed}
 use Rattle.generic_text.specs.declared.Text.{Text}

@@ -1,11 +1,10 @@
 -- `generic_text::expand` meets its contract.
 -- Assumes nothing.
 use mathlib.Core.Path.{sym, ◌∙◌}
-use Prim.Native.Nat.{◌+◌, ◌≤◌}
 use native.Mathlib.Omega.{arith}
-use lib.ListN.{length, length-replicate}
+use lib.ListN.{length-replicate}
 use Rattle.numbers.proofs.Storing.{stored-length}
-use Rattle.generic_text.proofs.Expanding.{four_elements, stored_part, filled, expand_more, run_passes, told, run_ends, expand_room, expand_end, no_fault}
+use Rattle.generic_text.proofs.Expanding.{four_elements, expand_more, run_passes, told, run_ends, expand_room, expand_end, no_fault}
 use Rattle.generic_text.proofs.expand.Goals as goal
 
 pub put_four-at-requires : goal.put_four-at-requires
