@@ -57,7 +57,7 @@ pub fn track_number(kind: TrackKind) -> u8
     kind as u8
 }
 
-// A match and no TryFrom: `track_from` cannot fail, and nothing would call a conversion that can.
+// It cannot fail, as no way back to a typed report does, and so has no TryFrom: gdl90 tests C's number before it.
 #[tactic(auto, unfolding(crate::specs::Flat::track_from))]
 pub fn track_from(number: u8) -> TrackKind
     ensures { result ≡ track_from number }

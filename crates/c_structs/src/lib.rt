@@ -36,7 +36,7 @@ pub struct FlatGeometric {
 }
 
 // What reading one kind answers: the number, and the value, which is all zero with a refusal.
-// The C interface: an exported function takes no struct with a type parameter, so each kind has its own.
+// The C interface: an exported function answers no struct with a type parameter, so each kind has its own.
 #[repr(C)]
 #[derive(Clone, Copy)]
 pub struct HeartbeatRead {

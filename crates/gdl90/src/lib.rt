@@ -1,4 +1,5 @@
 // The library's functions for C, and for Rust by way of C: thin, and with the library's own promises. crates/gdl90_c exports them.
+// The structs are those of the C interface, each with its name in include/gdl90.h: a number for a refusal, and values, 0 beside it.
 #![tactic(auto)]
 
 ghost use Rattle.std.specs.Prelude.{◌≡◌, length, Err};
@@ -36,6 +37,7 @@ use c_structs::{
 };
 use collecting::{Answer, Control, Fed, Phase};
 use generic_text::Text;
+use information_frames::FrameList;
 use message_types::{Heartbeat, Initialization, Ownship, Traffic};
 use messages::Kind;
 use refusals::Refusal;
@@ -65,17 +67,19 @@ pub fn gdl90_frame(message: &[u8], out: &mut [u8]) -> FrameAnswer
     ensures answer { result ≡ frame_answer (framing message.now (length out.old)) }
     ensures output { out.new ≡ written (framed_output (framing message.now (length out.old)) message.now) out.old }
 {
-    frame_answer(framing::frame(message, out))
+    framing::frame(message, out).into()
 }
 
-fn frame_answer(framed: Result<usize, Refusal>) -> FrameAnswer
-    ensures { result ≡ frame_answer framed }
-{
-    match framed {
-        Ok(length) => FrameAnswer { number: 0, length },
-        Err(refusal) => {
-            let number = refusal.number();
-            FrameAnswer { number, length: 0 }
+impl From<Result<usize, Refusal>> for FrameAnswer {
+    ghost from_gives = { λ framed answer. answer ≡ frame_answer framed };
+
+    fn from(framed: Result<usize, Refusal>) -> FrameAnswer {
+        match framed {
+            Ok(length) => FrameAnswer { number: 0, length },
+            Err(refusal) => {
+                let number = refusal.number();
+                FrameAnswer { number, length: 0 }
+            }
         }
     }
 }
@@ -168,7 +172,7 @@ fn feed_answer(fed: Fed) -> FeedAnswer
     }
 }
 
-// A phase over 4 is none: its state is taken as the fresh one.
+// A phase over 4 is none: its state is taken as the fresh one, as one with a count over 438 is (RULES 'Structs for C').
 fn control_of(control: FeedControl) -> Control
     ensures { result ≡ control_of control }
 {
@@ -202,19 +206,20 @@ pub fn gdl90_read_recording(
 ) -> RecordingAnswer
     ensures { ReadsRecording recording.now list.old messages.old result list.new messages.new }
 {
-    let recorded = recording::read_recording(recording, list, messages);
-    recording_answer(recorded)
+    recording::read_recording(recording, list, messages).into()
 }
 
-fn recording_answer(recorded: Result<usize, Refusal>) -> RecordingAnswer
-    ensures { result ≡ recording_answer recorded }
-{
-    match recorded {
-        Ok(entries) => RecordingAnswer { number: 0, entries },
-        Err(refusal) => RecordingAnswer {
-            number: refusal.number(),
-            entries: 0,
-        },
+impl From<Result<usize, Refusal>> for RecordingAnswer {
+    ghost from_gives = { λ recorded answer. answer ≡ recording_answer recorded };
+
+    fn from(recorded: Result<usize, Refusal>) -> RecordingAnswer {
+        match recorded {
+            Ok(entries) => RecordingAnswer { number: 0, entries },
+            Err(refusal) => RecordingAnswer {
+                number: refusal.number(),
+                entries: 0,
+            },
+        }
     }
 }
 
@@ -242,15 +247,9 @@ fn kind_number(kind: Kind) -> u8
     ensures { result ≡ kind_number kind }
 {
     match kind {
-        Kind::Heartbeat => 0,
-        Kind::Initialization => 0,
-        Kind::Uplink => 0,
-        Kind::Height => 0,
-        Kind::Ownship => 0,
-        Kind::Geometric => 0,
-        Kind::Traffic => 0,
-        Kind::Retired => 17,
-        Kind::Unknown => 6,
+        Kind::Retired => Refusal::RetiredId.number(),
+        Kind::Unknown => Refusal::OtherId.number(),
+        _ => 0,
     }
 }
 
@@ -329,31 +328,27 @@ pub struct WriteAnswer {
 pub fn gdl90_write_heartbeat(heartbeat: Heartbeat, out: &mut [u8]) -> WriteAnswer
     ensures { WritesHeartbeat heartbeat out.old result out.new }
 {
-    let written = heartbeat::write_heartbeat(heartbeat, out);
-    write_answer(written)
+    heartbeat::write_heartbeat(heartbeat, out).into()
 }
 
 pub fn gdl90_write_initialization(initialization: Initialization, out: &mut [u8]) -> WriteAnswer
     ensures { WritesInitialization initialization out.old result out.new }
 {
-    let written = initialization::write_initialization(initialization, out);
-    write_answer(written)
+    initialization::write_initialization(initialization, out).into()
 }
 
 pub fn gdl90_write_uplink(uplink: FlatUplink, payload: &[u8], out: &mut [u8]) -> WriteAnswer
     ensures { WritesUplink uplink payload.now out.old result out.new }
 {
     let value = c_structs::uplink_from(uplink);
-    let written = uplink::write_uplink(value, payload, out);
-    write_answer(written)
+    uplink::write_uplink(value, payload, out).into()
 }
 
 pub fn gdl90_write_height(height: FlatHeight, out: &mut [u8]) -> WriteAnswer
     ensures { WritesHeight height out.old result out.new }
 {
     let value = c_structs::terrain_from(height);
-    let written = altitudes::write_height(value, out);
-    write_answer(written)
+    altitudes::write_height(value, out).into()
 }
 
 pub fn gdl90_write_ownship(report: FlatReport, out: &mut [u8]) -> WriteAnswer
@@ -366,8 +361,7 @@ pub fn gdl90_write_geometric(geometric: FlatGeometric, out: &mut [u8]) -> WriteA
     ensures { WritesGeometric geometric out.old result out.new }
 {
     let value = c_structs::geometric_from(geometric);
-    let written = altitudes::write_geometric(value, out);
-    write_answer(written)
+    altitudes::write_geometric(value, out).into()
 }
 
 pub fn gdl90_write_traffic(report: FlatReport, out: &mut [u8]) -> WriteAnswer
@@ -382,21 +376,23 @@ fn write_report(id: u8, flat: FlatReport, out: &mut [u8]) -> WriteAnswer
     ensures { WritesReport id flat out.old result out.new }
 {
     if flat.track_kind > LAST_TRACK_KIND {
-        return write_answer(Err(Refusal::BadField));
+        return Err(Refusal::BadField).into();
     }
     let report = c_report::report_from(flat);
-    write_answer(report::write_report(id, report, out))
+    report::write_report(id, report, out).into()
 }
 
-fn write_answer(written: Result<usize, Refusal>) -> WriteAnswer
-    ensures { result ≡ write_answer written }
-{
-    match written {
-        Ok(length) => WriteAnswer { number: 0, length },
-        Err(refusal) => WriteAnswer {
-            number: refusal.number(),
-            length: 0,
-        },
+impl From<Result<usize, Refusal>> for WriteAnswer {
+    ghost from_gives = { λ written answer. answer ≡ write_answer written };
+
+    fn from(written: Result<usize, Refusal>) -> WriteAnswer {
+        match written {
+            Ok(length) => WriteAnswer { number: 0, length },
+            Err(refusal) => WriteAnswer {
+                number: refusal.number(),
+                length: 0,
+            },
+        }
     }
 }
 
@@ -409,22 +405,30 @@ pub struct PayloadListAnswer {
     pub end: usize,
 }
 
+impl From<Result<FrameList, Refusal>> for PayloadListAnswer {
+    ghost from_gives = { λ listed answer. answer ≡ payload_list_answer listed };
+
+    fn from(listed: Result<FrameList, Refusal>) -> PayloadListAnswer {
+        match listed {
+            Ok(list) => PayloadListAnswer {
+                number: 0,
+                count: list.count,
+                end: list.end,
+            },
+            Err(refusal) => PayloadListAnswer {
+                number: refusal.number(),
+                count: 0,
+                end: 0,
+            },
+        }
+    }
+}
+
 // `information_frames::list`.
 pub fn gdl90_payload_list(payload: &[u8]) -> PayloadListAnswer
     ensures { result ≡ payload_list_answer (frame_list (payload_frames payload.now)) }
 {
-    match information_frames::list(payload) {
-        Ok(list) => PayloadListAnswer {
-            number: 0,
-            count: list.count,
-            end: list.end,
-        },
-        Err(refusal) => PayloadListAnswer {
-            number: refusal.number(),
-            count: 0,
-            end: 0,
-        },
-    }
+    information_frames::list(payload).into()
 }
 
 // The number; a frame's type and reserved bits, where in the payload its data start, and how many bytes they are.
@@ -438,7 +442,7 @@ pub struct PayloadNthAnswer {
     pub length: usize,
 }
 
-// `information_frames::nth`.
+// `information_frames::nth`. No `From`: that 10 more than a frame's place fits is known of a payload's frames only.
 pub fn gdl90_payload_nth(payload: &[u8], n: usize) -> PayloadNthAnswer
     ensures { result ≡ payload_nth_answer (nth_frame (payload_frames payload.now) n) }
 {
@@ -450,19 +454,13 @@ pub fn gdl90_payload_nth(payload: &[u8], n: usize) -> PayloadNthAnswer
             start: f.at + 10,
             length: f.length,
         },
-        Err(refusal) => no_frame(refusal),
-    }
-}
-
-fn no_frame(refusal: Refusal) -> PayloadNthAnswer
-    ensures { result ≡ payload_nth_answer (Err refusal) }
-{
-    PayloadNthAnswer {
-        number: refusal.number(),
-        kind: 0,
-        reserved: 0,
-        start: 0,
-        length: 0,
+        Err(refusal) => PayloadNthAnswer {
+            number: refusal.number(),
+            kind: 0,
+            reserved: 0,
+            start: 0,
+            length: 0,
+        },
     }
 }
 
@@ -492,28 +490,29 @@ pub struct TextAnswer {
 pub fn gdl90_read_text(apdu: &[u8], out: &mut [u8]) -> TextAnswer
     ensures { ReadsText apdu.now out.old result out.new }
 {
-    let reading = generic_text::read(apdu, out);
-    text_answer(reading)
+    generic_text::read(apdu, out).into()
 }
 
-fn text_answer(reading: Result<Text, Refusal>) -> TextAnswer
-    ensures { result ≡ text_answer reading }
-{
-    match reading {
-        Ok(text) => TextAnswer {
-            number: 0,
-            hours: text.hours,
-            minutes: text.minutes,
-            padding: text.padding,
-            length: text.length,
-        },
-        Err(refusal) => TextAnswer {
-            number: refusal.number(),
-            hours: 0,
-            minutes: 0,
-            padding: 0,
-            length: 0,
-        },
+impl From<Result<Text, Refusal>> for TextAnswer {
+    ghost from_gives = { λ reading answer. answer ≡ text_answer reading };
+
+    fn from(reading: Result<Text, Refusal>) -> TextAnswer {
+        match reading {
+            Ok(text) => TextAnswer {
+                number: 0,
+                hours: text.hours,
+                minutes: text.minutes,
+                padding: text.padding,
+                length: text.length,
+            },
+            Err(refusal) => TextAnswer {
+                number: refusal.number(),
+                hours: 0,
+                minutes: 0,
+                padding: 0,
+                length: 0,
+            },
+        }
     }
 }
 
@@ -527,8 +526,7 @@ pub fn gdl90_write_text(
 ) -> WriteAnswer
     ensures { WritesText (text_with hours minutes padding text.now) out.old result out.new }
 {
-    let written = generic_text::write(hours, minutes, padding, text, out);
-    write_answer(written)
+    generic_text::write(hours, minutes, padding, text, out).into()
 }
 
 // Feet, from each of the three units, for every value of its width.
