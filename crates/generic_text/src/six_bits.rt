@@ -34,7 +34,7 @@ pub struct Run {
 impl<'a> Codes<'a> {
     ghost use Rattle.generic_text.specs.Codes.{codes_in, codes_left, NextCode, NextRun, NextFour};
 
-    pub fn new(table: &'a [u8; 64], bytes: &'a [u8]) -> Codes<'a>
+    pub(crate) fn new(table: &'a [u8; 64], bytes: &'a [u8]) -> Codes<'a>
         requires { table.now ≡ code_characters }
         ensures { codes_left result ≡ codes_in bytes.now }
     {
