@@ -2,17 +2,44 @@
 -- Assumes nothing.
 use mathlib.Core.Path.{◌≡◌, refl, sym, ap, ◌∙◌, subst, subst₂}
 use mathlib.Core.Bool.{Bool, true, false, cond}
-use Prim.Native.Nat.{ℕ}
-use mathlib.Core.List.{List}
+use Prim.Native.Nat.{ℕ, ◌+◌, ◌≤◌, ◌<◌}
+use mathlib.Core.List.{List, ◌++◌}
+use native.Mathlib.Omega.{arith}
+use native.Mathlib.Numerals.{add-one}
 use lib.Dec.{eqb}
-use lib.ListN.{length, get_or}
-use borrow.Author.Tests.{eqb-true, ne_eqb}
+use lib.ListN.{length, drop, get_or, set, drop_of_length-le}
+use lib.Seq.{sets, drop-cons}
+use borrow.Author.Tests.{eqb-true, ne_eqb, le-leb, lt-leb}
+use Rattle.std.proofs.lemmas.List.{append-nil}
 use Rattle.std.specs.Prelude.{Result, Ok, Err}
 use Rattle.numbers.specs.Lent.{written}
+use Rattle.numbers.proofs.Storing.{from_first}
 use Rattle.refusals.specs.declared.Refusal.{Refusal}
-use Rattle.refusals.specs.declared.Refusal.TheVariants.{OtherId, WrongLength, BadField}
+use Rattle.refusals.specs.declared.Refusal.TheVariants.{OtherId, WrongLength, BadField, NoRoom}
 use Rattle.codec.specs.Reading.{fit, held, reading}
 use Rattle.codec.specs.Writing.{writing, Wrote}
+
+pub no_room : (bytes out : List ℕ) → length out < length bytes → Wrote true bytes out (Err NoRoom) out
+unfolding writing written
+no_room bytes out h = record { answers = simp (lt-leb (length bytes) (length out) h); leaves = refl }
+
+-- one byte more stored of those that are left
+pub stored : (bytes left : List ℕ) (i : ℕ) → i < length bytes → sets (set left i (get_or bytes i 0)) (i + 1) (drop (i + 1) bytes) ≡ sets left i (drop i bytes)
+stored bytes left i h = simp add-one (ap (sets left i) (sym (drop-cons bytes i 0 h)))
+
+pub all_stored : (bytes out left : List ℕ) (i : ℕ) → length bytes ≤ length out → i ≡ length bytes → sets left i (drop i bytes) ≡ sets out 0 bytes → Wrote true bytes out (Ok (length bytes)) left
+unfolding writing
+all_stored bytes out left i h e s = record {
+  answers = simp (le-leb (length bytes) (length out) h);
+  leaves = sym (ap (sets left i) (ap (λ (n : ℕ). drop n bytes) e ∙ drop_of_length-le bytes {i = length bytes} (omega arith))) ∙ s ∙ from_first bytes out h;
+}
+
+-- bytes that fill the output are what it holds then
+pub put_whole : (bytes out : List ℕ) → length bytes ≡ length out → (r : Result ℕ Refusal) (left : List ℕ) → Wrote true bytes out r left → left ≡ bytes
+unfolding writing written
+put_whole bytes out e r left w =
+    let all : left ≡ bytes ++ drop (length bytes) out = w.leaves ∙ rw (w.answers, le-leb (length bytes) (length out) (omega (arith, e))) refl in
+    all ∙ rw (drop_of_length-le out {i = length bytes} (omega (arith, e)), append-nil bytes) refl
 
 -- a good value's bytes, put
 pub wrote : {good : Bool} {bytes b out left : List ℕ} {r : Result ℕ Refusal} → good ≡ true → b ≡ bytes → Wrote true b out r left → Wrote good bytes out r left

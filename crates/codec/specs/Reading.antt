@@ -3,12 +3,17 @@
 use Rattle.std.specs.Prelude.{ℕ, Bool, cond, List, eqb, length, get_or, Result, Ok, Err}
 use Rattle.refusals.specs.declared.Refusal.{Refusal}
 use Rattle.refusals.specs.declared.Refusal.TheVariants.{OtherId, WrongLength, BadField}
+use Rattle.refusals.specs.Numbers.{number_in}
 
 -- 6 for no bytes or another id than the kind's; then 7 for another length than the kind's; else the message
 unfoldable pub fit : ℕ → ℕ → List ℕ → Result (List ℕ) Refusal
 fit id size m =
     cond (eqb (length m) 0) (Err OtherId)
     (cond (eqb (get_or m 0 0) id) (cond (eqb (length m) size) (Ok m) (Err WrongLength)) (Err OtherId))
+
+-- the number of that, 0 for a message that fits
+unfoldable pub misfit : ℕ → ℕ → List ℕ → ℕ
+misfit id size m = number_in (fit id size m)
 
 -- what does not fit is refused; then 8 unless the value that the bytes hold is good
 abbrev pub held : {X : Type 0} → (List ℕ → X) → (X → Bool) → Result (List ℕ) Refusal → Result X Refusal

@@ -2,7 +2,7 @@
 #![tactic(auto)]
 
 ghost use Rattle.std.specs.Prelude.{true, ◌≡◌, MatchResult, Ok, Err};
-ghost use Rattle.codec.specs.Reading.{fit};
+ghost use Rattle.codec.specs.Reading.{fit, misfit};
 ghost use Rattle.codec.specs.Writing.{Wrote};
 
 use refusals::Refusal;
@@ -18,14 +18,30 @@ pub fn fit<const N: usize>(message: &[u8], id: u8) -> Result<&[u8; N], Refusal>
     message.as_array().ok_or(Refusal::WrongLength)
 }
 
+// The number of that refusal, for a length that is told: 0 for none.
+#[tactic(auto, unfolding(crate::specs::Reading::fit, crate::specs::Reading::misfit))]
+pub fn misfit(message: &[u8], id: u8, length: usize) -> u8
+    ensures { result ≡ misfit id length message.now }
+{
+    if message.is_empty() || message[0] != id {
+        return Refusal::OtherId.number();
+    }
+    if message.len() != length {
+        return Refusal::WrongLength.number();
+    }
+    0
+}
+
 // The bytes to the start of the output: 9 exactly when the output is shorter than the message.
-#[tactic(auto, unfolding(crate::specs::Writing::writing, numbers::specs::Lent::written))]
 pub fn put(bytes: &[u8], out: &mut [u8]) -> Result<usize, Refusal>
     ensures { Wrote true bytes.now out.old result out.new }
 {
     if out.len() < bytes.len() {
         return Err(Refusal::NoRoom);
     }
-    out[..bytes.len()].copy_from_slice(bytes);
+    // not by `copy_from_slice`: of a length that the compiler doesn't know that calls memmove, which the archive for C is to do without
+    for (i, byte) in bytes.iter().enumerate() {
+        out[i] = *byte;
+    }
     Ok(bytes.len())
 }

@@ -4,10 +4,13 @@
 ghost use Rattle.std.specs.Prelude.{◌≡◌, ◌==◌, ◌++◌, ◌+◌, ◌-◌, ◌*◌, ◌≤◌, ◌<◌, length, take, replicate};
 ghost use Rattle.std.specs.List.{position as first_place};
 ghost use Rattle.fcs.specs.Fcs.{fcs};
+ghost use Rattle.refusals.specs.declared.Refusal.TheVariants.{BadField};
 ghost use Rattle.collecting.specs.declared.Phase.TheVariants.{Open};
 ghost use Rattle.collecting.specs.Step.{PhaseOf, held, state_in, cleared, fresh, collected, unescaped, inside, checked, closed, over, taken, next, shown, stepped, left};
 ghost use Rattle.collecting.specs.Stream.{after, is_answered, answer_number, message_length, position, run, fed, unflagged};
 ghost use Rattle.collecting.specs.Stretch.{Within, Passed, Leads};
+
+use refusals::Refusal;
 
 // Each with the number that it has for C.
 #[derive(Clone, Copy, Debug, PartialEq, Eq, Hash)]
@@ -42,6 +45,15 @@ impl TryFrom<u8> for Phase {
             4 => Ok(Phase::TooLong),
             _ => Err(UnknownPhase(n)),
         }
+    }
+}
+
+// Refused with 8, as a mark's unknown number is.
+impl From<UnknownPhase> for Refusal {
+    ghost from_gives = { λ phase refusal. refusal ≡ BadField };
+
+    fn from(_: UnknownPhase) -> Refusal {
+        Refusal::BadField
     }
 }
 

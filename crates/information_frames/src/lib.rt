@@ -141,7 +141,8 @@ fn put(payload: &mut [u8], end: usize, kind: u8, bytes: &[u8])
     payload[6] = with_valid_bit(payload[6]);
     payload[end + 8] = (n / 2) as u8;
     payload[end + 9] = (n % 2 * 128) as u8 + kind;
-    payload[end + 10..end + 10 + n].copy_from_slice(bytes);
+    // for which there is room
+    let _ = codec::put(bytes, &mut payload[end + 10..end + 10 + n]);
     payload[end + 10 + n..].fill(0);
 }
 

@@ -3,12 +3,13 @@
 use mathlib.Core.Path.{◌≡◌, refl, sym, ap, ◌∙◌}
 use mathlib.Core.Bool.{Bool, true, false, cond}
 use Prim.Native.Nat.{ℕ, ◌+◌, ◌-◌, ◌*◌, ◌≤◌, ◌<◌}
-use mathlib.Core.List.{List}
+use mathlib.Core.List.{List, []}
 use native.Mathlib.Omega.{arith}
 use lib.Dec.{eqb, ltb}
 use lib.ListN.{length, take, drop, get_or, length-append, length-take, length-drop}
-use lib.Seq.{take-take, take_all, take_at, get_or-take, length-take-le}
+use lib.Seq.{take-take, take_all, take_at, length-take-le}
 use borrow.Author.Tests.{eq-eqb, ne_eqb, lt-ltb, le-ltb, ltb-false}
+use Rattle.std.specs.Prelude.{Result, Ok, Err, MatchResult}
 use Rattle.numbers.specs.Lent.{written}
 use Rattle.fcs.specs.Fcs.{fcs}
 use Rattle.framing.specs.Stuffing.{stuff, unstuff, Unstuffed}
@@ -21,7 +22,7 @@ use Rattle.recording.proofs.Judging.{verdict_judged}
 use Rattle.recording.specs.declared.Broken.{Broken}
 use Rattle.recording.specs.declared.Fault.{Fault}
 use Rattle.recording.specs.declared.Fault.TheVariants.{BadEscape, CutEscape, TooLong}
-use Rattle.recording.specs.Steps.{fault_number, first_fault, part_bytes, Whole, Breaking, IsReply, AnswersPart, reply_to_part, judged}
+use Rattle.recording.specs.Steps.{fault_number, first_fault, part_bytes, Unstuffs, checked_part, IsReply, AnswersPart, reply_to_part, judged}
 
 -- what a part's bytes are answered, all `at` stuffed ones taken
 module _ (bs : List ℕ) (at : ℕ) where
@@ -57,6 +58,24 @@ in_front (Accepted k) n room r h w =
     record { same = ap message (sym (take-take k n room (omega (arith, size, w.within)))) ∙ w.same; within = omega (arith, size, w.within) }
 in_front (Refused k at) n room r h w = record { same = w.same; within = omega arith }
 
+-- check, of either outcome of unstuffing
+pub front_checked : (all n : ℕ) (room : List ℕ) (a : Answer) → n ≤ length room → IsReply a (take n room) (whole all (take n room)) → IsReply a room (checked_part all room (Ok n))
+front_checked all n room a h w = in_front a n room (whole all (take n room)) h w
+
+pub fault_checked : (all : ℕ) (b : Broken) (room : List ℕ) (k : ℕ) → k ≡ fault_number b.fault → IsReply (Refused k b.taken) room (checked_part all room (Err b))
+unfolding reply
+fault_checked all b room k e = record { same = rw (e) (told b.fault); within = omega arith }
+  where
+    told : (f : Fault) → refused (fault_number f) b.taken ≡ judged (fault_number f) b.taken []
+    told BadEscape = refl
+    told CutEscape = refl
+    told TooLong = refl
+
+-- what unstuffing counts is in the room
+pub in_room : (part : List ℕ) (r : Result ℕ Broken) → Unstuffs part r → (room : List ℕ) → length room ≡ 438 → MatchResult r (λ n. n ≤ length room) (λ b. Unit {0})
+in_room part (Ok n) w room size = omega (arith, w.count, size, length-take 438 (unstuff part).bytes)
+in_room part (Err b) w room size = tt
+
 -- without a fault the bytes as a whole are answered for
 faultless : (at : ℕ) (u : Unstuffed) → first_fault u ≡ 0 → whole at u.bytes ≡ verdict at u
 unfolding verdict
@@ -74,16 +93,13 @@ module _ (part room₀ : List ℕ) (fits : length room₀ ≡ 438) {room : List 
   room_size =
       ap length f ∙ omega (arith, length-take 438 (unstuff part).bytes, fits, length-append (part_bytes part) (drop (length (part_bytes part)) room₀), length-drop (length (part_bytes part)) room₀)
 
-  pub answered_part : (n : ℕ) → Whole part n → (a : Answer) → IsReply a (take n room) (whole (length part) (take n room)) → IsReply a room (reply_between part)
+  pub answered_part : (r : Result ℕ Broken) → Unstuffs part r → (a : Answer) → IsReply a room (checked_part (length part) room r) → IsReply a room (reply_between part)
   unfolding reply_between written
-  answered_part n w a h =
+  answered_part (Ok n) w a h =
       let bytes = (unstuff part).bytes in
-      let bound : n ≤ length room = omega (arith, w.count, length-take 438 bytes, room_size) in
       let front : take n room ≡ part_bytes part = rw (f, w.count) (take_at (part_bytes part) (drop (length (part_bytes part)) room₀) (length (part_bytes part)) refl) in
       let all : part_bytes part ≡ bytes = take_all 438 bytes (short_enough (unstuff part) w.none) in
-      let same : whole (length part) (take n room) ≡ verdict (length part) (unstuff part) =
-      ap (whole (length part)) (front ∙ all) ∙ faultless (length part) (unstuff part) w.none in
-      in_front a n room _ bound (record { same = h.same ∙ same; within = h.within })
+      record { same = h.same ∙ ap (whole (length part)) (front ∙ all) ∙ faultless (length part) (unstuff part) w.none; within = h.within }
     where
       short_enough : (u : Unstuffed) → first_fault u ≡ 0 → length u.bytes ≤ 438
       short_enough u = go (ltb 438 (length u.bytes)) refl
@@ -91,15 +107,12 @@ module _ (part room₀ : List ℕ) (fits : length room₀ ≡ 438) {room : List 
           go : (t : Bool) → ltb 438 (length u.bytes) ≡ t → cond t 3 u.fault ≡ 0 → length u.bytes ≤ 438
           go true e h = absurd (omega arith)
           go false e h = ltb-false 438 (length u.bytes) e
-
-  pub broken_part : (b : Broken) → Breaking part b → (k : ℕ) → k ≡ fault_number b.fault → IsReply (Refused k b.taken) room (reply_between part)
-  unfolding reply_between reply
-  broken_part b w k e = record {
-    same = rw (verdict_judged (length part) (unstuff part), sym w.number, sym w.met, e) (faulty b.fault);
-    within = omega arith;
+  answered_part (Err b) w a h = record {
+    same = h.same ∙ rw (verdict_judged (length part) (unstuff part), sym w.number, sym w.met) (faulty b.fault);
+    within = h.within;
   }
     where
-      faulty : (f : Fault) → refused (fault_number f) b.taken ≡ judged (fault_number f) b.taken (unstuff part).bytes
+      faulty : (f : Fault) → judged (fault_number f) b.taken [] ≡ judged (fault_number f) b.taken (unstuff part).bytes
       faulty BadEscape = refl
       faulty CutEscape = refl
       faulty TooLong = refl

@@ -6,7 +6,6 @@ use Rattle.collecting.specs.Stream.{Reply, nothing, message, refused}
 use Rattle.collecting.specs.Between.{reply_between}
 use Rattle.refusals.specs.declared.Refusal.{Refusal}
 use Rattle.refusals.specs.declared.Refusal.TheVariants.{NoRoom}
-use Rattle.refusals.specs.Numbers.{refusal_number}
 use Rattle.recording.specs.declared.Needed.{Needed}
 use Rattle.recording.specs.Cut.{cut, between_flags}
 

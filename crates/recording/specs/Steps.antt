@@ -65,6 +65,11 @@ abbrev pub Unstuffs : List ℕ → Result ℕ Broken → Type 0
 Unstuffs part (Ok n) = Whole part n
 Unstuffs part (Err b) = Breaking part b
 
+-- check: the fault, or what the bytes at the room's start are answered
+abbrev pub checked_part : ℕ → List ℕ → Result ℕ Broken → Reply
+checked_part all room (Ok n) = judged 0 all (take n room)
+checked_part all room (Err b) = judged (fault_number b.fault) b.taken []
+
 -- an answer is this reply, its message at the room's start
 pub record IsReply (a : Answer) (room : List ℕ) (r : Reply) : Type 0 where
   pub same : reply a room ≡ r

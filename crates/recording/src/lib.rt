@@ -4,12 +4,12 @@
 // return, and `x.now` what is only read.
 #![tactic(auto)]
 
-ghost use Rattle.std.specs.Prelude.{◌≡◌, false, ◌+◌, ◌≤◌, ◌<◌, length, drop};
+ghost use Rattle.std.specs.Prelude.{◌≡◌, false, ◌+◌, ◌≤◌, ◌<◌, length, drop, MatchResult};
 ghost use Rattle.numbers.specs.Lent.{written, Stored};
 ghost use Rattle.framing.specs.Stuffing.{Flagless};
 ghost use Rattle.collecting.specs.Stream.{unflagged};
 ghost use Rattle.collecting.specs.Between.{whole};
-ghost use Rattle.recording.specs.Steps.{fault_number, Unescapes, part_bytes, Unstuffs, IsReply, AnswersPart, answer_entry};
+ghost use Rattle.recording.specs.Steps.{fault_number, Unescapes, part_bytes, Unstuffs, checked_part, IsReply, AnswersPart, answer_entry};
 ghost use Rattle.recording.specs.Recording.{each_answer, entry_of, message_in, needed_by, is_short, ReadRecording};
 
 use collecting::Answer;
@@ -106,8 +106,19 @@ fn unescape(part: &[u8], i: usize) -> Result<Unescaped, Broken>
     })
 }
 
-// Check: the length of what was unstuffed, then the check sequence, which stands behind the message, low byte first.
-fn check(bytes: &[u8], taken: usize) -> Answer
+// Check: the fault of unstuffing, or what the bytes at the room's start are answered, all stuffed bytes taken.
+fn check(unstuffed: Result<usize, Broken>, all: usize, room: &[u8]) -> Answer
+    requires { MatchResult unstuffed (λ n. n ≤ length room.now) (λ b. Unit {0}) }
+    ensures { IsReply result room.now (checked_part all room.now unstuffed) }
+{
+    match unstuffed {
+        Ok(count) => whole(&room[..count], all),
+        Err(broken) => Answer::Refused(broken.fault.number(), broken.taken),
+    }
+}
+
+// Without a fault: the length, then the check sequence, which stands behind the message, low byte first.
+fn whole(bytes: &[u8], taken: usize) -> Answer
     ensures { IsReply result bytes.now (whole taken bytes.now) }
 {
     let n = bytes.len();
@@ -149,10 +160,8 @@ fn answer_part(recording: &[u8], i: usize, room: &mut [u8; 438]) -> PartAnswer
         };
     }
     let part = &recording[start..end];
-    let answer = match unstuff(part, room) {
-        Ok(count) => check(&room[..count], part.len()),
-        Err(broken) => Answer::Refused(broken.fault.number(), broken.taken),
-    };
+    let unstuffed = unstuff(part, room);
+    let answer = check(unstuffed, part.len(), room);
     PartAnswer { answer, end }
 }
 
@@ -202,9 +211,11 @@ fn put_message(messages: &mut [u8], n: usize, message: &[u8]) -> usize
     requires { n + length message.now ≤ length messages.old }
     ensures { Stored messages.old n message.now result messages.new }
 {
-    let end = n + message.len();
-    messages[n..end].copy_from_slice(message);
-    end
+    // not by `copy_from_slice`, which is a call for a part without a message too: a recording of flags took a third longer
+    for (i, byte) in message.iter().enumerate() {
+        messages[n + i] = *byte;
+    }
+    n + message.len()
 }
 
 // The entries, and the messages, end to end.

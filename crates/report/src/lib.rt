@@ -44,7 +44,9 @@ pub fn read_traffic(message: &[u8]) -> Result<FlatReport, Refusal>
 pub fn read_report(message: &[u8], id: u8) -> Result<FlatReport, Refusal>
     ensures { result ≡ report_read id message.now }
 {
-    let bytes = codec::fit(message, id)?;
+    // each kind's length is the other's
+    let ownship: &[u8; Ownship::LENGTH] = codec::fit(message, id)?;
+    let bytes: &[u8; Traffic::LENGTH] = ownship;
     if !holds_good_report(bytes) {
         return Err(Refusal::BadField);
     }

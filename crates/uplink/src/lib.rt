@@ -49,7 +49,8 @@ pub fn write_uplink(uplink: Uplink, payload: &[u8], out: &mut [u8]) -> Result<us
         return Err(Refusal::NoRoom);
     }
     out[..4].copy_from_slice(&head_of(uplink.reception));
-    out[4..Uplink::LENGTH].copy_from_slice(payload);
+    // for which there is room
+    let _ = codec::put(payload, &mut out[4..Uplink::LENGTH]);
     Ok(Uplink::LENGTH)
 }
 

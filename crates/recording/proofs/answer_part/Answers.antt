@@ -1,13 +1,13 @@
 -- `recording::answer_part` meets its contract.
 -- Assumes nothing.
 use native.Mathlib.Omega.{arith}
-use mathlib.Core.Path.{◌≡◌, sym, ap, ◌∙◌, subst}
-use Prim.Native.Nat.{ℕ, ◌+◌, ◌-◌, ◌≤◌}
-use lib.ListN.{take, drop, length, length-take, length-drop}
-use Rattle.framing.specs.Stuffing.{Flagless, unstuff}
+use mathlib.Core.Path.{◌≡◌, sym, subst}
+use Prim.Native.Nat.{ℕ, ◌+◌, ◌-◌}
+use lib.ListN.{take, drop, length-drop}
+use Rattle.framing.specs.Stuffing.{Flagless}
 use Rattle.collecting.specs.Stream.{reply, unflagged}
 use Rattle.collecting.proofs.Filling.{unflagged_most, unflagged_flagless}
-use Rattle.recording.proofs.Checking.{answered_part, broken_part, closed_part, no_flag}
+use Rattle.recording.proofs.Checking.{in_room, answered_part, closed_part, no_flag}
 use Rattle.recording.proofs.answer_part.Goals as goal
 
 pub returns-then-end-recording : goal.returns-then-end-recording
@@ -26,27 +26,20 @@ slice_bounds-part-end c =
     let a = c.args in
     omega (arith, c.part_end-end.ensures, unflagged_most (drop (a.i + 1) a.recording.now), length-drop (a.i + 1) a.recording.now)
 
-pub unstuff-requires : goal.unstuff-requires
-unstuff-requires c =
+pub unstuff-unstuffed-requires : goal.unstuff-unstuffed-requires
+unstuff-unstuffed-requires c =
     let bs = drop (c.args.i + 1) c.args.recording.now in
     let n : c.part_end-end.result - (c.args.i + 1) ≡ unflagged bs = omega (arith, c.part_end-end.ensures) in
     (subst (λ (k : ℕ). Flagless (take k bs)) (sym n) (unflagged_flagless bs), c.requires.1)
 
-pub shared_ref_as_front-check : goal.shared_ref_as_front-check
-shared_ref_as_front-check c =
-    let a = c.args in
-    omega (arith, c.in-Ok.ensures.unstuffs.count, length-take 438 (unstuff (take (c.part_end-end.result - (a.i + 1)) (drop (a.i + 1) a.recording.now))).bytes)
+pub check-answer-requires : goal.check-answer-requires
+check-answer-requires c =
+    let u = c.unstuff-unstuffed in
+    in_room _ _ u.ensures.unstuffs _ u.array_long
 
-pub returns-in-Ok : goal.returns-in-Ok
-returns-in-Ok c =
+pub returns : goal.returns
+returns c =
     let a = c.args in
-    let u = c.in-Ok.ensures in
-    closed_part a.recording.now a.i c.part_end-end.result _ _ c.requires.0 c.part_end-end.ensures (omega arith) c.unstuff.array_long
+    let u = c.unstuff-unstuffed.ensures in
+    closed_part a.recording.now a.i c.part_end-end.result _ _ c.requires.0 c.part_end-end.ensures (omega arith) c.unstuff-unstuffed.array_long
     (answered_part _ _ c.requires.1 u.output _ u.unstuffs _ c.check-answer.ensures)
-
-pub returns-in-Err : goal.returns-in-Err
-returns-in-Err c =
-    let a = c.args in
-    let u = c.in-Err.ensures in
-    closed_part a.recording.now a.i c.part_end-end.result _ _ c.requires.0 c.part_end-end.ensures (omega arith) c.unstuff.array_long
-    (broken_part _ _ c.requires.1 u.output _ u.unstuffs _ c.number.ensures)

@@ -1,18 +1,10 @@
 -- `recording::check` meets its contract.
 -- Assumes nothing.
-use Rattle.recording.proofs.Checking.{empty, short, agrees, differs}
+use Rattle.recording.proofs.Checking.{front_checked, fault_checked}
 use Rattle.recording.proofs.check.Goals as goal
 
-pub returns-then-n-eq0 : goal.returns-then-n-eq0
-returns-then-n-eq0 c = empty c.args.bytes.now c.args.taken c.if-n-eq0.true
+pub returns-in-Ok : goal.returns-in-Ok
+returns-in-Ok c = rw (c.in-Ok.is) (front_checked c.args.all c.in-Ok.count c.args.room.now _ (rw (c.in-Ok.is) at c.requires) c.whole.ensures)
 
-pub returns-then-n-lt3 : goal.returns-then-n-lt3
-returns-then-n-lt3 c = short c.args.bytes.now c.args.taken c.if-n-eq0.false c.if-n-lt3.true
-
-pub returns-then-check_sequence-sent : goal.returns-then-check_sequence-sent
-returns-then-check_sequence-sent c =
-    agrees c.args.bytes.now c.args.taken c.if-n-lt3.false _ _ c.check_sequence.ensures c.word-sent.ensures c.if-check_sequence-sent.true
-
-pub returns : goal.returns
-returns c =
-    differs c.args.bytes.now c.args.taken c.if-n-lt3.false _ _ c.check_sequence.ensures c.word-sent.ensures c.if-check_sequence-sent.false
+pub returns-in-Err : goal.returns-in-Err
+returns-in-Err c = rw (c.in-Err.is) (fault_checked c.args.all c.in-Err.broken c.args.room.now _ c.number.ensures)
