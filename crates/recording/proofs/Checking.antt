@@ -58,18 +58,19 @@ in_front (Accepted k) n room r h w =
     record { same = ap message (sym (take-take k n room (omega (arith, size, w.within)))) ∙ w.same; within = omega (arith, size, w.within) }
 in_front (Refused k at) n room r h w = record { same = w.same; within = omega arith }
 
+-- a fault is answered whatever the bytes
+faulty : (f : Fault) (at : ℕ) (bs : List ℕ) → judged (fault_number f) at bs ≡ refused (fault_number f) at
+faulty BadEscape at bs = refl
+faulty CutEscape at bs = refl
+faulty TooLong at bs = refl
+
 -- check, of either outcome of unstuffing
 pub front_checked : (all n : ℕ) (room : List ℕ) (a : Answer) → n ≤ length room → IsReply a (take n room) (whole all (take n room)) → IsReply a room (checked_part all room (Ok n))
 front_checked all n room a h w = in_front a n room (whole all (take n room)) h w
 
 pub fault_checked : (all : ℕ) (b : Broken) (room : List ℕ) (k : ℕ) → k ≡ fault_number b.fault → IsReply (Refused k b.taken) room (checked_part all room (Err b))
 unfolding reply
-fault_checked all b room k e = record { same = rw (e) (told b.fault); within = omega arith }
-  where
-    told : (f : Fault) → refused (fault_number f) b.taken ≡ judged (fault_number f) b.taken []
-    told BadEscape = refl
-    told CutEscape = refl
-    told TooLong = refl
+fault_checked all b room k e = record { same = rw (e) (sym (faulty b.fault b.taken [])); within = omega arith }
 
 -- what unstuffing counts is in the room
 pub in_room : (part : List ℕ) (r : Result ℕ Broken) → Unstuffs part r → (room : List ℕ) → length room ≡ 438 → MatchResult r (λ n. n ≤ length room) (λ b. Unit {0})
@@ -107,15 +108,10 @@ module _ (part room₀ : List ℕ) (fits : length room₀ ≡ 438) {room : List 
           go : (t : Bool) → ltb 438 (length u.bytes) ≡ t → cond t 3 u.fault ≡ 0 → length u.bytes ≤ 438
           go true e h = absurd (omega arith)
           go false e h = ltb-false 438 (length u.bytes) e
-  answered_part (Err b) w a h = record {
-    same = h.same ∙ rw (verdict_judged (length part) (unstuff part), sym w.number, sym w.met) (faulty b.fault);
-    within = h.within;
-  }
-    where
-      faulty : (f : Fault) → judged (fault_number f) b.taken [] ≡ judged (fault_number f) b.taken (unstuff part).bytes
-      faulty BadEscape = refl
-      faulty CutEscape = refl
-      faulty TooLong = refl
+  answered_part (Err b) w a h =
+      let bytes = (unstuff part).bytes in
+      let same : checked_part (length part) room (Err b) ≡ judged (fault_number b.fault) b.taken bytes = faulty b.fault b.taken [] ∙ sym (faulty b.fault b.taken bytes) in
+      record { same = h.same ∙ rw (verdict_judged (length part) (unstuff part), sym w.number, sym w.met) same; within = h.within }
 
 module _ (bs : List ℕ) where
   pub no_flag : length bs ≤ unflagged bs → nothing ≡ reply_to_part bs
